@@ -1,0 +1,14 @@
+pub mod Counting
+pub mod Sums
+pub mod Tests
+pub mod Tallies
+pub mod Refused
+pub mod Design
+pub mod Accepted
+pub mod Reading
+pub mod Opening
+pub mod Packing
+pub mod Standing
+pub mod Written
+pub mod RoundTrip
+pub mod WritingBack

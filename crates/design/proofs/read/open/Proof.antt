@@ -1,0 +1,142 @@
+-- `design::read::open` meets its contract: rules 1 to 4 by the header's fields, the others by `open_table`. Assumes nothing.
+use borrow.Author.Needs.{needs}
+use borrow.Author.Tests.{not-true, not-false, le-leb, lt-leb, eq-eqb, ne-eqb}
+use mathlib.Core.Path.{_≡_, sym, ap₂, _∙_}
+use mathlib.Core.List.{List}
+use Prim.Native.Nat.{ℕ, _*_}
+use native.Mathlib.Omega.{arith}
+use Rattle.fields.proofs.Laws.{isField-iff}
+use Rattle.design.specs.Sheet.{sheetLength, Limits, vOf, kOf, bOf, TOf, uOf, withinLimits}
+use Rattle.design.proofs.Tests.{limits}
+use Rattle.design.proofs.Opening.{short, other-edition, outside-limits, other-length, limits-read}
+use Rattle.design.proofs.read.open.Statement.{statement}
+use Rattle.design.proofs.read.open.Tie as tie
+
+refused-requires : tie.Need-refused-requires
+refused-requires c κs = search needs
+
+returns : tie.Need-returns
+returns c = c .refused .ensures ∙ short _ (lt-leb _ _ (c .before .if1 .taken))
+
+number-requires : tie.Need-number-requires
+number-requires c κs = isField-iff _ _ _ .1 (omega arith)
+
+refused-requires-2 : tie.Need-refused-requires-2
+refused-requires-2 c κs = search needs
+
+returns-2 : tie.Need-returns-2
+returns-2 c =
+    let n = c .before .before in
+    c .refused2 .ensures ∙ other-edition _ (le-leb _ _ (n .before .if1 .left)) (ne-eqb _ _ (λ e. c .before .if2 .taken (n .number .ensures ∙ e)))
+
+number-requires-2 : tie.Need-number-requires-2
+number-requires-2 c κs = isField-iff _ _ _ .1 (omega arith)
+
+number-requires-3 : tie.Need-number-requires-3
+number-requires-3 c κs = isField-iff _ _ _ .1 (omega arith)
+
+number-requires-4 : tie.Need-number-requires-4
+number-requires-4 c κs = isField-iff _ _ _ .1 (omega arith)
+
+number-requires-5 : tie.Need-number-requires-5
+number-requires-5 c κs = isField-iff _ _ _ .1 (omega arith)
+
+number-requires-6 : tie.Need-number-requires-6
+number-requires-6 c κs = isField-iff _ _ _ .1 (omega arith)
+
+within-limits-requires : tie.Need-within-limits-requires
+within-limits-requires c κs = search needs
+
+refused-requires-3 : tie.Need-refused-requires-3
+refused-requires-3 c κs = search needs
+
+-- ---- the five numbers are the header's
+
+abbrev edition : tie.After-within-limits → tie.Else2
+edition c = c .before .before .before .before .before .before
+
+abbrev sheet : tie.After-within-limits → List ℕ
+sheet c = edition c .before .before .before .before .args .sheet .now
+
+tested : (c : tie.After-within-limits) → let s = sheet c in c .within-limits .result ≡ withinLimits (vOf s) (kOf s) (bOf s) (TOf s) (uOf s)
+tested c =
+    let n = c .before in
+    c .within-limits .ensures
+    ∙ limits-read (sheet c) (n .before .before .before .before .number2 .ensures) (n .before .before .before .number3 .ensures) (n .before .before .number4 .ensures)
+    (n .before .number5 .ensures) (n .number6 .ensures)
+
+returns-3 : tie.Need-returns-3
+returns-3 c =
+    let w = c .before .before in
+    let e = edition w in
+    c .refused3 .ensures
+    ∙ outside-limits _ (le-leb _ _ (e .before .before .if1 .left)) (eq-eqb _ _ (sym (e .before .number .ensures) ∙ e .if2 .left))
+    (sym (tested w) ∙ not-true _ (c .before .if3 .taken))
+
+within : (c : tie.Else3) → let n = c .before .before in
+    Limits (n .before .before .before .before .number2 .result) (n .before .before .before .number3 .result) (n .before .before .number4 .result) (n .before .number5 .result) (n .number6 .result)
+within c = limits _ _ _ _ _ .0 (sym (c .before .within-limits .ensures) ∙ not-false _ (c .if3 .left))
+
+mul-sheet-length : tie.Need-mul-sheet-length
+mul-sheet-length c = omega (arith, within c .places)
+
+sheet-length-requires : tie.Need-sheet-length-requires
+sheet-length-requires c κs = within c .places
+
+refused-requires-4 : tie.Need-refused-requires-4
+refused-requires-4 c κs = search needs
+
+returns-4 : tie.Need-returns-4
+returns-4 c =
+    let l = c .before .before in
+    let w = l .before .before in
+    let e = edition w in
+    c .refused4 .ensures
+    ∙ other-length _ (le-leb _ _ (e .before .before .if1 .left)) (eq-eqb _ _ (sym (e .before .number .ensures) ∙ e .if2 .left))
+    (sym (tested w) ∙ not-false _ (l .before .if3 .left))
+    (ne-eqb _ _ (λ q. c .before .if4 .taken (q ∙ sym (l .sheet-length .ensures ∙ ap₂ (λ (b k : ℕ). sheetLength (b * k)) (w .before .before .before .number4 .ensures) (w .before .before .before .before .number3 .ensures)))))
+
+open-table-requires : tie.Need-open-table-requires
+open-table-requires c κs =
+    let l = c .before in
+    let w = l .before .before in
+    let n = w .before in
+    let e = edition w in
+    record {
+      long = le-leb _ _ (e .before .before .if1 .left);
+      edition = eq-eqb _ _ (sym (e .before .number .ensures) ∙ e .if2 .left);
+      limits = sym (w .within-limits .ensures) ∙ not-false _ (l .before .if3 .left);
+      exact = c .if4 .left ∙ l .sheet-length .ensures;
+      v-is = n .before .before .before .before .number2 .ensures;
+      k-is = n .before .before .before .number3 .ensures;
+      b-is = n .before .before .number4 .ensures;
+      T-is = n .before .number5 .ensures;
+      u-is = n .number6 .ensures;
+    }
+
+returns-5 : tie.Need-returns-5
+returns-5 c = search needs
+
+pub open-spec : {M : Type 1} → statement M
+open-spec =
+    tie.close
+    (tie.spec
+    refused-requires
+    returns
+    number-requires
+    refused-requires-2
+    returns-2
+    number-requires-2
+    number-requires-3
+    number-requires-4
+    number-requires-5
+    number-requires-6
+    within-limits-requires
+    refused-requires-3
+    returns-3
+    mul-sheet-length
+    sheet-length-requires
+    refused-requires-4
+    returns-4
+    open-table-requires
+    returns-5)

@@ -1,0 +1,219 @@
+-- `design::read::open_table` meets its contract: each test of the code is the test of its rule, of the table that was read.
+-- Assumes nothing.
+use borrow.Author.Needs.{needs}
+use borrow.Author.Tests.{not-true, not-false}
+use mathlib.Core.Path.{_≡_, sym, ap, _∙_}
+use mathlib.Core.Bool.{true}
+use Prim.Native.Nat.{_*_}
+use native.Mathlib.Nat.{mul-le-mul-left}
+use native.Mathlib.Omega.{arith}
+use lib.ListN.{getD}
+use Rattle.design.specs.Tuples.{Design, before, shared, disksBelow, noneTwice, disksEven, pairsEven}
+use Rattle.design.specs.Sheet.{Limits, fillingZero, openedBy}
+use Rattle.design.proofs.Tests.{limits}
+use Rattle.design.proofs.Opening.{readDesign, shelf-read, below-read, once-read, disks-read, pairs-read, r-read, lambda-read, below-side, different-read, disk-outside, disk-twice, filling-set, disks-uneven, pairs-uneven, accepted}
+use Rattle.design.proofs.read.open_table.Statement.{statement}
+use Rattle.design.proofs.read.open_table.Tie as tie
+
+within : (c : tie.Start) → Limits (c .args .v) (c .args .k) (c .args .b) (c .args .t) (c .args .u)
+within c = limits _ _ _ _ _ .0 (c .pre .limits)
+
+mul-n : tie.Need-mul-n
+mul-n c = omega (arith, within (c .before))
+
+table-of-requires : tie.Need-table-of-requires
+table-of-requires c κs = (within (c .before) .places, c .before .pre .exact)
+
+disks-below-requires : tie.Need-disks-below-requires
+disks-below-requires c κs = within (c .before .before .before) .places
+
+refused-requires : tie.Need-refused-requires
+refused-requires c κs = search needs
+
+returns : tie.Need-returns
+returns c =
+    let d = c .before .before in
+    let s = d .before .before .before .before in
+    c .refused .ensures
+    ∙ disk-outside _ _ _ _ _ _ (s .pre)
+    (sym (below-read _ _ _ _ _ (d .before .before .table-of .ensures) (d .disks-below .ensures)) ∙ not-true _ (c .before .if1 .taken))
+
+-- ---- rules 5, 6 and 7 are kept
+
+abbrev start : tie.Else1 → tie.Start
+start c = c .before .before .before .before .before
+
+abbrev design : tie.Start → Design
+design c = readDesign (c .args .sheet .now) (c .args .v) (c .args .k) (c .args .b)
+
+below : (c : tie.Else1) → disksBelow (design (start c)) ≡ true
+below c =
+    let d = c .before in
+    sym (below-read _ _ _ _ _ (d .before .before .table-of .ensures) (d .disks-below .ensures)) ∙ not-false _ (c .if1 .left)
+
+none-twice-requires : tie.Need-none-twice-requires
+none-twice-requires c κs = within (c .before .before .before .before .before .before) .places
+
+refused-requires-2 : tie.Need-refused-requires-2
+refused-requires-2 c κs = search needs
+
+returns-2 : tie.Need-returns-2
+returns-2 c =
+    let d = c .before .before in
+    let e = d .before .before in
+    let t = e .before .before .before in
+    c .refused2 .ensures
+    ∙ disk-twice _ _ _ _ _ _ (t .before .before .pre) (below e)
+    (sym (once-read _ _ _ _ _ (t .table-of .ensures) (d .none-twice .ensures)) ∙ not-true _ (c .before .if2 .taken))
+
+once : (c : tie.Else2) → noneTwice (design (start (c .before .before .before))) ≡ true
+once c =
+    let d = c .before in
+    sym (once-read _ _ _ _ _ (d .before .before .before .before .before .table-of .ensures) (d .none-twice .ensures)) ∙ not-false _ (c .if2 .left)
+
+filling-zero-requires : tie.Need-filling-zero-requires
+filling-zero-requires c κs =
+    let s = start (c .before .before .before) in
+    (within s .places, s .pre .exact)
+
+refused-requires-3 : tie.Need-refused-requires-3
+refused-requires-3 c κs = search needs
+
+returns-3 : tie.Need-returns-3
+returns-3 c =
+    let d = c .before .before in
+    let e = d .before .before .before .before in
+    c .refused3 .ensures
+    ∙ filling-set _ _ _ _ _ _ (start e .pre) (below e) (once (d .before)) (sym (d .filling-zero .ensures) ∙ not-true _ (c .before .if3 .taken))
+
+abbrev first : tie.Else3 → tie.Else1
+first c = c .before .before .before .before .before
+
+zero : (c : tie.Else3) → let a = start (first c) .args in fillingZero (a .sheet .now) (a .b * a .k) ≡ true
+zero c = sym (c .before .filling-zero .ensures) ∙ not-false _ (c .if3 .left)
+
+tally-requires : tie.Need-tally-requires
+tally-requires c κs =
+    let e = c .before .before .before .before .before .before in
+    let s = start e in
+    let l = within s in
+    let t = e .before .before .before .table-of .ensures in (
+      (l .places, omega (arith, l), omega (arith, l, mul-le-mul-left (s .args .b) (l .k-least))),
+      (
+        below-side _ _ _ _ _ t (l .v-most) (below e),
+        different-read _ _ _ _ _ t (once (c .before .before .before)),
+      ),
+    )
+
+-- what was counted, and the test of the disks
+
+r-counted : (c : tie.After-tally) → getD (c .tally .result) 0 0 ≡ (let D = design (start (first (c .before .before))) in before D (D .b) 0)
+r-counted c =
+    let e = first (c .before .before) in
+    r-read _ _ _ _ _ (e .before .before .before .table-of .ensures) (within (start e) .v-most) (c .tally .result) (c .tally .ensures)
+
+lambda-counted : (c : tie.After-tally) → getD (c .tally .result) 64 0 ≡ (let D = design (start (first (c .before .before))) in shared D (D .b) 1 0)
+lambda-counted c =
+    let e = first (c .before .before) in
+    lambda-read _ _ _ _ _ (e .before .before .before .table-of .ensures) (within (start e) .v-most) (c .tally .result) (c .tally .ensures)
+
+disks-tested : (c : tie.After-disks-even) → c .disks-even .result ≡ disksEven (design (start (first (c .before .before .before .before)))) (getD (c .before .before .tally .result) 0 0)
+disks-tested c =
+    let n = c .before .before in
+    let e = first (n .before .before) in
+    disks-read _ _ _ _ _ (e .before .before .before .table-of .ensures) (within (start e) .v-most) (n .tally .result) (n .tally .ensures) _ (c .disks-even .ensures)
+
+array-read-r : tie.Need-array-read-r
+array-read-r c = search needs
+
+cast-r : tie.Need-cast-r
+cast-r c = search needs
+
+disks-even-requires : tie.Need-disks-even-requires
+disks-even-requires c κs = within (start (first (c .before .before .before))) .v-most
+
+refused-requires-4 : tie.Need-refused-requires-4
+refused-requires-4 c κs = search needs
+
+returns-4 : tie.Need-returns-4
+returns-4 c =
+    let d = c .before .before in
+    let n = d .before .before in
+    let z = n .before .before in
+    c .refused4 .ensures
+    ∙ disks-uneven _ _ _ _ _ _ (start (first z) .pre) (below (first z)) (once (z .before .before)) (zero z)
+    (ap (disksEven (design (start (first z)))) (sym (r-counted n)) ∙ sym (disks-tested d) ∙ not-true _ (c .before .if4 .taken))
+
+even : (c : tie.Else4) → let D = design (start (first (c .before .before .before .before .before))) in disksEven D (before D (D .b) 0) ≡ true
+even c =
+    let n = c .before .before .before in
+    ap (disksEven (design (start (first (n .before .before))))) (sym (r-counted n)) ∙ sym (disks-tested (c .before)) ∙ not-false _ (c .if4 .left)
+
+array-read-lambda : tie.Need-array-read-lambda
+array-read-lambda c = search needs
+
+cast-lambda : tie.Need-cast-lambda
+cast-lambda c = search needs
+
+pairs-even-requires : tie.Need-pairs-even-requires
+pairs-even-requires c κs = within (start (first (c .before .before .before .before .before .before))) .v-most
+
+pairs-tested : (c : tie.After-pairs-even) → let n = c .before .before .before .before .before in
+    c .pairs-even .result ≡ pairsEven (design (start (first (n .before .before)))) (getD (n .tally .result) 64 0)
+pairs-tested c =
+    let n = c .before .before .before .before .before in
+    let e = first (n .before .before) in
+    pairs-read _ _ _ _ _ (e .before .before .before .table-of .ensures) (within (start e) .v-most) (n .tally .result) (n .tally .ensures) _ (c .pairs-even .ensures)
+
+refused-requires-5 : tie.Need-refused-requires-5
+refused-requires-5 c κs = search needs
+
+returns-5 : tie.Need-returns-5
+returns-5 c =
+    let d = c .before .before in
+    let f = d .before .before in
+    let n = f .before .before .before in
+    let z = n .before .before in
+    c .refused5 .ensures
+    ∙ pairs-uneven _ _ _ _ _ _ (start (first z) .pre) (below (first z)) (once (z .before .before)) (zero z) (even f)
+    (ap (pairsEven (design (start (first z)))) (sym (lambda-counted n)) ∙ sym (pairs-tested d) ∙ not-true _ (c .before .if5 .taken))
+
+returns-6 : tie.Need-returns-6
+unfolding openedBy
+returns-6 c =
+    let d = c .before in
+    let f = d .before .before in
+    let n = f .before .before .before in
+    let z = n .before .before in
+    let e = first z in
+    rw (shelf-read _ _ _ _ _ _ (start e .pre) (e .before .before .before .table-of .ensures) (r-counted n) (lambda-counted n))
+    (accepted _ _ _ _ _ _ (start e .pre) (below e) (once (z .before .before)) (zero z) (even f)
+    (ap (pairsEven (design (start e))) (sym (lambda-counted n)) ∙ sym (pairs-tested d) ∙ not-false _ (c .if5 .left)))
+
+pub open-table-spec : {M : Type 1} → statement M
+open-table-spec =
+    tie.close
+    (tie.spec
+    mul-n
+    table-of-requires
+    disks-below-requires
+    refused-requires
+    returns
+    none-twice-requires
+    refused-requires-2
+    returns-2
+    filling-zero-requires
+    refused-requires-3
+    returns-3
+    tally-requires
+    array-read-r
+    cast-r
+    disks-even-requires
+    refused-requires-4
+    returns-4
+    array-read-lambda
+    cast-lambda
+    pairs-even-requires
+    refused-requires-5
+    returns-5
+    returns-6)

@@ -1,0 +1,71 @@
+-- `design::rules::disks_below` meets its contract. The loop's invariant: the entries before i are below v. Assumes nothing.
+use mathlib.Core.Path.{_≡_, sym}
+use mathlib.Core.Bool.{Bool, true}
+use mathlib.Core.List.{List}
+use Prim.Native.Nat.{ℕ, _-_, _≤_}
+use native.Mathlib.Omega.{arith}
+use lib.Dec.{ltb}
+use lib.ListN.{getD}
+use borrow.Author.Needs.{needs}
+use borrow.Author.Tests.{lt-ltb, le-ltb}
+use Rattle.design.specs.Count.{every}
+use Rattle.design.proofs.Counting.{every-not, every-none, every-next, every-end}
+use Rattle.design.proofs.rules.disks_below.Statement.{statement}
+use Rattle.design.proofs.rules.disks_below.Tie as tie
+
+abbrev below : List ℕ → ℕ → ℕ → Bool
+below table v i = ltb (getD table i 0) v
+
+abbrev Inv-loop : tie.InvT-loop
+Inv-loop table n v i₀ i = (i ≤ n) × (every i (below table v) ≡ true)
+
+abbrev μ-loop : tie.MeasureT-loop
+μ-loop table n v i₀ i = n - i
+
+loop-holds : tie.Need-loop-holds Inv-loop μ-loop
+loop-holds c = (omega arith, every-none _)
+
+element-copy-out-wide : tie.Need-element-copy-out-wide Inv-loop μ-loop
+element-copy-out-wide c = omega arith
+
+wide-requires : tie.Need-wide-requires Inv-loop μ-loop
+wide-requires c κs = search needs
+
+returns : tie.Need-returns Inv-loop μ-loop
+returns c =
+    let a = c .before .before .before .before .before .args in
+    let i = c .before .before .before .before .loop .i in
+    sym (every-not (a .n) (below (a .table .now) (a .v)) i (c .before .before .before .loop-test .taken)
+    (le-ltb (getD (a .table .now) i 0) (a .v) (omega arith)))
+
+add-i : tie.Need-add-i Inv-loop μ-loop
+add-i c = omega arith
+
+loop-less : tie.Need-loop-less Inv-loop μ-loop
+loop-less c = omega arith
+
+loop-again : tie.Need-loop-again Inv-loop μ-loop
+loop-again c =
+    let a = c .before .before .before .before .before .args in
+    let i = c .before .before .before .before .loop .i in (
+      omega arith,
+      every-next i (below (a .table .now) (a .v)) (c .before .before .before .before .loop .inv .1) (lt-ltb (getD (a .table .now) i 0) (a .v) (omega arith)),
+    )
+
+returns-2 : tie.Need-returns-2 Inv-loop μ-loop
+returns-2 c = every-end _ _ _ (c .before .loop .inv .0) (c .loop-test .left) (c .before .loop .inv .1)
+
+pub disks-below-spec : {M : Type 1} → statement M
+disks-below-spec =
+    tie.close
+    (tie.spec
+    Inv-loop
+    μ-loop
+    loop-holds
+    element-copy-out-wide
+    wide-requires
+    returns
+    add-i
+    loop-less
+    loop-again
+    returns-2)

@@ -1,0 +1,75 @@
+-- `design::tally::row_even` meets its contract. The loop's invariant: d is counted lambda times with each disk passed.
+-- The measure is the number of disks left. Assumes nothing.
+use mathlib.Core.Path.{_≡_, sym, _∙_}
+use mathlib.Core.Bool.{true}
+use Prim.Native.Nat.{_*_, _+_, _-_, _≤_}
+use native.Mathlib.Omega.{arith}
+use lib.Dec.{eqb}
+use lib.ListN.{getD}
+use borrow.Author.Needs.{needs}
+use borrow.Author.Tests.{eq-eqb, ne-eqb}
+use Rattle.design.specs.Count.{every}
+use Rattle.design.proofs.Counting.{every-not, every-none, every-next, every-end}
+use Rattle.design.proofs.tally.row_even.Statement.{statement}
+use Rattle.design.proofs.tally.row_even.Tie as tie
+
+abbrev Inv-loop : tie.InvT-loop
+Inv-loop counts d lambda e₀ e = (e ≤ d) × (every e (λ i. eqb (getD counts (d * 64 + i) 0) lambda) ≡ true)
+
+abbrev μ-loop : tie.MeasureT-loop
+μ-loop counts d lambda e₀ e = d - e
+
+loop-holds : tie.Need-loop-holds Inv-loop μ-loop
+loop-holds c = (omega arith, every-none _)
+
+mul-wide : tie.Need-mul-wide Inv-loop μ-loop
+mul-wide c = omega arith
+
+add-wide : tie.Need-add-wide Inv-loop μ-loop
+add-wide c = omega arith
+
+mul-wide-2 : tie.Need-mul-wide-2 Inv-loop μ-loop
+mul-wide-2 c = omega arith
+
+element-copy-out-wide : tie.Need-element-copy-out-wide Inv-loop μ-loop
+element-copy-out-wide c = omega arith
+
+wide-requires : tie.Need-wide-requires Inv-loop μ-loop
+wide-requires c κs = search needs
+
+returns : tie.Need-returns Inv-loop μ-loop
+returns c =
+    let a = c .before .before .before .before in
+    sym (every-not _ _ (a .loop .e) (c .before .before .before .loop-test .taken) (ne-eqb _ _ (λ e. c .if1 .taken (c .before .wide .ensures ∙ e))))
+
+add-e : tie.Need-add-e Inv-loop μ-loop
+add-e c = omega arith
+
+loop-less : tie.Need-loop-less Inv-loop μ-loop
+loop-less c = omega arith
+
+loop-again : tie.Need-loop-again Inv-loop μ-loop
+loop-again c =
+    let a = c .before .before .before .before in
+    (omega arith, every-next _ _ (a .loop .inv .1) (eq-eqb _ _ (sym (c .before .wide .ensures) ∙ c .if1 .left)))
+
+returns-2 : tie.Need-returns-2 Inv-loop μ-loop
+returns-2 c = every-end _ _ _ (c .before .loop .inv .0) (c .loop-test .left) (c .before .loop .inv .1)
+
+pub row-even-spec : {M : Type 1} → statement M
+row-even-spec =
+    tie.close
+    (tie.spec
+    Inv-loop
+    μ-loop
+    loop-holds
+    mul-wide
+    add-wide
+    mul-wide-2
+    element-copy-out-wide
+    wide-requires
+    returns
+    add-e
+    loop-less
+    loop-again
+    returns-2)

@@ -1,0 +1,136 @@
+// Opening a sheet: its rules one after another, each over the whole sheet (document 01, "Numbers a caller can get").
+ghost use mathlib.Core.Path.{_≡_};
+ghost use mathlib.Core.Bool.{true};
+ghost use Prim.Native.Nat.{_+_, _*_, _≤_};
+ghost use mathlib.Core.List.{[]};
+ghost use Rattle.design.specs.declared.Verdict.the-variants.{Refused};
+ghost use lib.ListN.{length};
+ghost use Rattle.fields.specs.Field.{field, isField};
+ghost use Rattle.design.specs.Sheet.{sheetLength, fillingZero, tableOf, openedBy, opened, HeaderRead};
+use crate::Loss;
+use crate::Opened;
+use crate::Refusal;
+use crate::Shelf;
+use crate::Verdict;
+use crate::rules;
+use crate::tally;
+use fields::Found;
+
+// A refused opening gives its number and the empty shelf.
+fn refused(refusal: Refusal) -> Opened
+    ensures { λ r. ⌜ r ≡ openedBy (Refused refusal) [] ⌝ }
+{
+    let shelf = Shelf::empty();
+    Opened {
+        verdict: Verdict::Refused(refusal),
+        shelf,
+    }
+}
+
+// The number in a field of the sheet.
+fn number(sheet: &[u8], at: usize, width: usize) -> usize
+    requires { ⌜ isField (now sheet) at width ≡ true ⌝ }
+    ensures { λ r. ⌜ r ≡ field (now (sheet .entry)) at width ⌝ }
+{
+    match fields::read(sheet, at, width) {
+        Found::Value(x) => x,
+        Found::NoField => 0,
+    }
+}
+
+// The length of a sheet of n disk numbers.
+pub fn sheet_length(n: usize) -> usize
+    requires { ⌜ n ≤ 2048 ⌝ }
+    ensures { λ r. ⌜ r ≡ sheetLength n ⌝ }
+{
+    6 + (6 * n + 7) / 8
+}
+
+// Rule 7: the bits past the last of n disk numbers.
+fn filling_zero(sheet: &[u8], n: usize) -> bool
+    requires { ⌜ (n ≤ 2048) × (length (now sheet) ≡ sheetLength n) ⌝ }
+    ensures { λ r. ⌜ r ≡ fillingZero (now (sheet .entry)) n ⌝ }
+{
+    let at = 48 + 6 * n;
+    let width = 8 * sheet.len() - at;
+    if width == 0 {
+        return true;
+    }
+    number(sheet, at, width) == 0
+}
+
+// The table: n disk numbers, and zero past them.
+fn table_of(sheet: &[u8], n: usize) -> [u8; 2048]
+    requires { ⌜ (n ≤ 2048) × (length (now sheet) ≡ sheetLength n) ⌝ }
+    ensures { λ r. ⌜ r ≡ tableOf (now (sheet .entry)) n ⌝ }
+{
+    let mut table = [0u8; Shelf::PLACES_MOST];
+    for i in 0..n {
+        table[i] = number(sheet, 48 + 6 * i, 6) as u8;
+    }
+    table
+}
+
+// Rules 5 to 9, of a sheet that keeps rules 1 to 4.
+fn open_table(sheet: &[u8], v: usize, k: usize, b: usize, t: usize, u: usize) -> Opened
+    requires { ⌜ HeaderRead (now sheet) v k b t u ⌝ }
+    ensures { λ r. ⌜ r ≡ opened (now (sheet .entry)) ⌝ }
+{
+    let n = b * k;
+    let table = table_of(sheet, n);
+    if !rules::disks_below(&table, n, v) {
+        return refused(Refusal::DiskOutside);
+    }
+    if !rules::none_twice(&table, k, b) {
+        return refused(Refusal::DiskTwice);
+    }
+    if !filling_zero(sheet, n) {
+        return refused(Refusal::FillingSet);
+    }
+    let counts = tally::tally(&table, k, b);
+    let r = counts[0] as usize;
+    if !tally::disks_even(&counts, v, r) {
+        return refused(Refusal::DisksUneven);
+    }
+    let lambda = counts[64] as usize;
+    if !tally::pairs_even(&counts, v, lambda) {
+        return refused(Refusal::PairsUneven);
+    }
+    Opened {
+        verdict: Verdict::Accepted,
+        shelf: Shelf {
+            v,
+            k,
+            b,
+            T: t,
+            u,
+            r,
+            lambda,
+            table,
+            loss: Loss::Nothing,
+        },
+    }
+}
+
+pub fn open(sheet: &[u8]) -> Opened
+    ensures { λ r. ⌜ r ≡ opened (now (sheet .entry)) ⌝ }
+{
+    if sheet.len() < 6 {
+        return refused(Refusal::ShortSheet);
+    }
+    if number(sheet, 0, 4) != 1 {
+        return refused(Refusal::OtherEdition);
+    }
+    let v = number(sheet, 4, 7);
+    let k = number(sheet, 11, 5);
+    let b = number(sheet, 16, 12);
+    let t = number(sheet, 28, 16);
+    let u = number(sheet, 44, 4);
+    if !rules::within_limits(v, k, b, t, u) {
+        return refused(Refusal::OutsideLimits);
+    }
+    if sheet.len() != sheet_length(b * k) {
+        return refused(Refusal::OtherLength);
+    }
+    open_table(sheet, v, k, b, t, u)
+}
