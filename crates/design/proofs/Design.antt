@@ -23,7 +23,7 @@ NoneTwice D = (q : ℕ) → q < D .b → Different (D .disk q) (D .k)
 -- ---- the disks of a tuple
 
 -- a disk stands at most once among k different ones
-has-once : (tuple : ℕ → ℕ) (k d : ℕ) → Different tuple k → count (λ p. eqb (tuple p) d) k ≡ cond (has tuple k d) 1 0
+pub has-once : (tuple : ℕ → ℕ) (k d : ℕ) → Different tuple k → count (λ p. eqb (tuple p) d) k ≡ cond (has tuple k d) 1 0
 unfolding has
 has-once tuple k d h = count-most-one (λ p. eqb (tuple p) d) k (λ i j hi hj x y. h i j hi hj (eqb-true (tuple i) d x ∙ sym (eqb-true (tuple j) d y)))
 
@@ -39,7 +39,8 @@ has-all tuple k v h below =
 
 -- ---- places and pairs
 
-shared-self : (D : Design) (n d : ℕ) → shared D n d d ≡ before D n d
+-- a disk shares with itself the tuples that hold it
+pub shared-self : (D : Design) (n d : ℕ) → shared D n d d ≡ before D n d
 unfolding shared before
 shared-self D n d = count-ext _ _ n (λ q l. idem (holds D q d))
   where
@@ -79,11 +80,7 @@ module _ (D : Design) (below : DisksBelow D) (different : NoneTwice D) where
       ∙ ap (λ (n : ℕ). D .k * n) (sym (count-sum (λ q. holds D q d) (D .b)))
     where
       each : (q : ℕ) → q < D .b → count (λ e. holds D q d && holds D q e) (D .v) ≡ D .k * cond (holds D q d) 1 0
-      each q l = count-both (holds D q d) (holds D q) (D .v) ∙ rw (tuple-size q l) (go (holds D q d))
-        where
-          go : (x : Bool) → cond x (D .k) 0 ≡ D .k * cond x 1 0
-          go true = omega arith
-          go false = omega arith
+      each q l = count-both (holds D q d) (holds D q) (D .v) ∙ ap (λ (n : ℕ). n * cond (holds D q d) 1 0) (tuple-size q l)
 
   -- the pairs, each in both orders, and each disk with itself
   pub all-pairs : sum (λ d. sum (shared D (D .b) d) (D .v)) (D .v) ≡ D .b * D .k * D .k

@@ -17,7 +17,8 @@ use Rattle.design.specs.Tuples.{Design, inTable, Different, holds, befor
 use Rattle.design.specs.Tally.{Tallied}
 use Rattle.design.specs.Sheet.{editionOf, vOf, kOf, bOf, TOf, uOf, sheetLength, tableOf, withinLimits, fillingZero, sheetRules, shelfOf, openedBy, opened, HeaderRead}
 use Rattle.design.proofs.Tests.{below-flat, below-at, twice}
-use Rattle.design.proofs.Tallies.{even-disks, even-pairs, shared-self}
+use Rattle.design.proofs.Design.{shared-self}
+use Rattle.design.proofs.Tallies.{even-disks, even-pairs}
 
 -- ---- the header
 

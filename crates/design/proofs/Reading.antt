@@ -10,14 +10,20 @@ use lib.Dec.{ltb, eqb}
 use lib.ListN.{length, getD, set, replicate}
 use lib.Seq.{ext-getD, getD-set-same, getD-set-other}
 use borrow.Author.Tests.{lt-ltb, le-ltb, ltb-true, eqb-true, eqb-false}
+use Rattle.fields.specs.Field.{field}
 use Rattle.fields.specs.declared.Found.{Found}
 use Rattle.fields.specs.declared.Found.the-variants.{Value, NoField}
+use Rattle.fields.proofs.Laws.{field-lt}
 use Rattle.design.specs.Sheet.{tableSize, numberOf, tableOf}
 use Rattle.design.proofs.Counting.{decided, alike, length-listFrom, getD-listFrom}
 
 abbrev pub valueOf : Found → ℕ
 valueOf (Value x) = x
 valueOf NoField = 0
+
+-- a number of six bits is a byte
+pub number-lt : (s : List ℕ) (at x : ℕ) → x ≡ field s at 6 → x < 64
+number-lt s at x e = omega (arith, field-lt s at 6)
 
 -- ---- a table whose first entries are f's, the others zero
 

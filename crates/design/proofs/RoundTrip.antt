@@ -48,6 +48,11 @@ pub loss-unwritten : (h : Shelf) → sheetIn (whole h) ≡ sheetIn h
 unfolding sheetIn headerIn
 loss-unwritten h = refl
 
+-- a lost disk below v makes no difference
+whole-shelf : (h : Shelf) → lossBelow (h .loss) (h .v) ≡ true → isShelf (whole h) ≡ isShelf h
+unfolding isShelf lossBelow
+whole-shelf h l = rw l
+
 -- ---- opening
 
 module _ (s : List ℕ) (e : opened s .verdict ≡ Accepted) where
@@ -180,18 +185,7 @@ module _ (h : Shelf) (full : length (h .table) ≡ tableSize) where
           )
 
       taken : Given (whole h) × (lossBelow (h .loss) (h .v) ≡ true) → isShelf h ≡ true
-      taken (g, l) =
-          let w = shelf-parts (whole h) (rw (g .gives) at (opened-is-shelf (g .sheet) (g .accepts))) in
-          shelf-whole h
-          (record {
-            limits = w .limits;
-            zero = w .zero;
-            below = w .below;
-            different = w .different;
-            often = w .often;
-            paired = w .paired;
-            loss = l;
-          })
+      taken (g, l) = sym (whole-shelf h l) ∙ rw (g .gives) at (opened-is-shelf (g .sheet) (g .accepts))
 
 -- ---- the shelf of a refused opening
 

@@ -124,6 +124,6 @@ count-unique f n i h e one =
     count-most-one f n (λ j j′ hj hj′ a b. one j hj a ∙ sym (one j′ hj′ b)) ∙ ap (λ (b : Bool). cond b 1 0) (lt-ltb 0 (count f n) l)
 
 -- a test beside one that does not look at the number
-pub count-both : (b : Bool) (g : ℕ → Bool) (n : ℕ) → count (λ i. b && g i) n ≡ cond b (count g n) 0
-count-both true g n = refl
-count-both false g n = count-none (λ i. false) n (λ i l. refl)
+pub count-both : (b : Bool) (g : ℕ → Bool) (n : ℕ) → count (λ i. b && g i) n ≡ count g n * cond b 1 0
+count-both true g n = omega arith
+count-both false g n = count-none (λ i. false) n (λ i l. refl) ∙ omega arith

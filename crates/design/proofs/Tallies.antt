@@ -11,10 +11,11 @@ use lib.ListN.{length, getD, set, replicate, getD-replicate}
 use lib.Seq.{getD-set-same, getD-set-other}
 use borrow.Author.Tests.{eq-eqb, eqb-true, eqb-false}
 use Rattle.design.specs.Count.{count, every}
-use Rattle.design.specs.Tuples.{Design, inTable, Different, has, holds, before, shared, disksEven, pairsEven}
+use Rattle.design.specs.Tuples.{Design, inTable, Different, has, holds, shared, disksEven, pairsEven}
 use Rattle.design.specs.Tally.{AddedRow, AddedTuple, Tallied}
 use Rattle.design.proofs.Counting.{decided, both, both-of, alike, every-ext, count-le, count-ext}
-use Rattle.design.proofs.Sums.{sum, sum-next, sum-ext, sum-const, sum-mul, sum-le, count-next, count-sum, count-most-one, count-both}
+use Rattle.design.proofs.Design.{has-once, shared-self}
+use Rattle.design.proofs.Sums.{sum, sum-next, sum-ext, sum-const, sum-mul, sum-le, count-next, count-sum, count-both}
 
 -- ---- one increment
 
@@ -70,30 +71,19 @@ entry-eq a b d e hb he =
     (λ t. let q = eqb-true (a * 64 + b) (d * 64 + e) t in both-of (eq-eqb a d (omega arith)) (eq-eqb b e (omega arith)))
     (λ t. let q = both (eqb a d) (eqb b e) t in eq-eqb (a * 64 + b) (d * 64 + e) (omega (arith, eqb-true a d (q .0), eqb-true b e (q .1))))
 
--- where its disks differ, a tuple has a disk once or not at all
-pub has-count : (tuple : ℕ → ℕ) (k d : ℕ) → Different tuple k → count (λ p. eqb (tuple p) d) k ≡ cond (has tuple k d) 1 0
-unfolding has
-has-count tuple k d apart =
-    count-most-one (λ p. eqb (tuple p) d) k (λ i j hi hj x y. apart i j hi hj (eqb-true (tuple i) d x ∙ sym (eqb-true (tuple j) d y)))
-
 -- the rows at (d, e)
 rows-at : (tuple : ℕ → ℕ) (k d e : ℕ) → ((p : ℕ) → p < k → tuple p < 64) → Different tuple k → e < 64
     → sum (λ i. count (λ j. eqb (tuple i * 64 + tuple j) (d * 64 + e)) k) k ≡ cond (has tuple k d && has tuple k e) 1 0
 rows-at tuple k d e small apart he =
     sum-ext _ (λ i. count (λ j. eqb (tuple j) e) k * cond (eqb (tuple i) d) 1 0) k row
     ∙ sum-mul (count (λ j. eqb (tuple j) e) k) (λ i. cond (eqb (tuple i) d) 1 0) k
-    ∙ ap₂ _*_ (has-count tuple k e apart) (sym (count-sum (λ i. eqb (tuple i) d) k) ∙ has-count tuple k d apart)
+    ∙ ap₂ _*_ (has-once tuple k e apart) (sym (count-sum (λ i. eqb (tuple i) d) k) ∙ has-once tuple k d apart)
     ∙ product (has tuple k d) (has tuple k e)
   where
-    term : (b : Bool) (n : ℕ) → cond b n 0 ≡ n * cond b 1 0
-    term true n = omega arith
-    term false n = omega arith
-
     row : (i : ℕ) → i < k → count (λ j. eqb (tuple i * 64 + tuple j) (d * 64 + e)) k ≡ count (λ j. eqb (tuple j) e) k * cond (eqb (tuple i) d) 1 0
     row i l =
         count-ext _ (λ j. eqb (tuple i) d && eqb (tuple j) e) k (λ j h. entry-eq (tuple i) (tuple j) d e (small j h) he)
         ∙ count-both (eqb (tuple i) d) (λ j. eqb (tuple j) e) k
-        ∙ term (eqb (tuple i) d) (count (λ j. eqb (tuple j) e) k)
 
     product : (x y : Bool) → cond y 1 0 * cond x 1 0 ≡ cond (x && y) 1 0
     product true true = refl
@@ -124,15 +114,6 @@ tallied-next v k b table q counts after t a d e hd he =
     omega (arith, t d e hd he, a d e hd he, count-next (λ q′. holds D q′ d && holds D q′ e) q)
 
 -- ---- rules 8 and 9
-
--- a disk shares with itself the tuples that hold it
-pub shared-self : (D : Design) (q d : ℕ) → shared D q d d ≡ before D q d
-unfolding shared before
-shared-self D q d = count-ext _ _ q (λ i l. idem (holds D i d))
-  where
-    idem : (x : Bool) → (x && x) ≡ x
-    idem true = refl
-    idem false = refl
 
 -- the number of disks does not enter into what is counted
 shared-any : (v k b : ℕ) (table : List ℕ) (q d e : ℕ) → shared (inTable 0 k b table) q d e ≡ shared (inTable v k b table) q d e

@@ -57,30 +57,25 @@ fn wide(count: u16) -> usize
     count as usize
 }
 
-// Rule 8: each of the v disks is counted r times.
-pub fn disks_even(counts: &[u16; 4096], v: usize, r: usize) -> bool
-    requires { ⌜ v ≤ 64 ⌝ }
-    ensures { λ even. ⌜ even ≡ every v (λ d. eqb (getD (now (counts .entry)) (d * 64 + d) 0) r) ⌝ }
+// Whether n counts, `step` apart from `from` on, are all `value`.
+fn all_are(counts: &[u16; 4096], from: usize, step: usize, n: usize, value: usize) -> bool
+    requires { ⌜ from + step * n < 4096 + step ⌝ }
+    ensures { λ even. ⌜ even ≡ every n (λ i. eqb (getD (now (counts .entry)) (from + step * i) 0) value) ⌝ }
 {
-    for d in 0..v {
-        if wide(counts[d * 64 + d]) != r {
+    for i in 0..n {
+        if wide(counts[from + step * i]) != value {
             return false;
         }
     }
     true
 }
 
-// Rule 9, for the pairs of disk d with a lower one.
-fn row_even(counts: &[u16; 4096], d: usize, lambda: usize) -> bool
-    requires { ⌜ d < 64 ⌝ }
-    ensures { λ even. ⌜ even ≡ every d (λ e. eqb (getD (now (counts .entry)) (d * 64 + e) 0) lambda) ⌝ }
+// Rule 8: each of the v disks is counted r times. The counts at 64·d + d stand 65 apart.
+pub fn disks_even(counts: &[u16; 4096], v: usize, r: usize) -> bool
+    requires { ⌜ v ≤ 64 ⌝ }
+    ensures { λ even. ⌜ even ≡ every v (λ d. eqb (getD (now (counts .entry)) (d * 64 + d) 0) r) ⌝ }
 {
-    for e in 0..d {
-        if wide(counts[d * 64 + e]) != lambda {
-            return false;
-        }
-    }
-    true
+    all_are(counts, 0, 65, v, r)
 }
 
 // Rule 9: each two of the v disks are counted together lambda times.
@@ -89,7 +84,7 @@ pub fn pairs_even(counts: &[u16; 4096], v: usize, lambda: usize) -> bool
     ensures { λ even. ⌜ even ≡ every v (λ d. every d (λ e. eqb (getD (now (counts .entry)) (d * 64 + e) 0) lambda)) ⌝ }
 {
     for d in 0..v {
-        if !row_even(counts, d, lambda) {
+        if !all_are(counts, d * 64, 1, d, lambda) {
             return false;
         }
     }

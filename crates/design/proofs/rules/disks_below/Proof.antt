@@ -1,8 +1,7 @@
 -- `design::rules::disks_below` meets its contract. The loop's invariant: the entries before i are below v. Assumes nothing.
 use mathlib.Core.Path.{_≡_, sym}
-use mathlib.Core.Bool.{Bool, true}
-use mathlib.Core.List.{List}
-use Prim.Native.Nat.{ℕ, _-_, _≤_}
+use mathlib.Core.Bool.{true}
+use Prim.Native.Nat.{_-_, _≤_}
 use native.Mathlib.Omega.{arith}
 use lib.Dec.{ltb}
 use lib.ListN.{getD}
@@ -13,11 +12,8 @@ use Rattle.design.proofs.Counting.{every-not, every-none, every-next, e
 use Rattle.design.proofs.rules.disks_below.Statement.{statement}
 use Rattle.design.proofs.rules.disks_below.Tie as tie
 
-abbrev below : List ℕ → ℕ → ℕ → Bool
-below table v i = ltb (getD table i 0) v
-
 abbrev Inv-loop : tie.InvT-loop
-Inv-loop table n v i₀ i = (i ≤ n) × (every i (below table v) ≡ true)
+Inv-loop table n v i₀ i = (i ≤ n) × (every i (λ j. ltb (getD table j 0) v) ≡ true)
 
 abbrev μ-loop : tie.MeasureT-loop
 μ-loop table n v i₀ i = n - i
@@ -33,10 +29,8 @@ wide-requires c κs = search needs
 
 returns : tie.Need-returns Inv-loop μ-loop
 returns c =
-    let a = c .before .before .before .before .before .args in
-    let i = c .before .before .before .before .loop .i in
-    sym (every-not (a .n) (below (a .table .now) (a .v)) i (c .before .before .before .loop-test .taken)
-    (le-ltb (getD (a .table .now) i 0) (a .v) (omega arith)))
+    let a = c .before .before .before .before in
+    sym (every-not _ _ (a .loop .i) (c .before .before .before .loop-test .taken) (le-ltb _ _ (rw (c .before .wide .ensures) at (c .if1 .taken))))
 
 add-i : tie.Need-add-i Inv-loop μ-loop
 add-i c = omega arith
@@ -46,11 +40,8 @@ loop-less c = omega arith
 
 loop-again : tie.Need-loop-again Inv-loop μ-loop
 loop-again c =
-    let a = c .before .before .before .before .before .args in
-    let i = c .before .before .before .before .loop .i in (
-      omega arith,
-      every-next i (below (a .table .now) (a .v)) (c .before .before .before .before .loop .inv .1) (lt-ltb (getD (a .table .now) i 0) (a .v) (omega arith)),
-    )
+    let a = c .before .before .before .before in
+    (omega arith, every-next _ _ (a .loop .inv .1) (lt-ltb _ _ (rw (c .before .wide .ensures) at (c .if1 .left))))
 
 returns-2 : tie.Need-returns-2 Inv-loop μ-loop
 returns-2 c = every-end _ _ _ (c .before .loop .inv .0) (c .loop-test .left) (c .before .loop .inv .1)

@@ -21,7 +21,7 @@ abbrev Passed : (ℕ → ℕ) → ℕ → ℕ → Type 0
 Passed tuple i j = (p : ℕ) → p < j → i < p → tuple i ≡ tuple p → ⊥
 
 abbrev Inv-loop : tie.InvT-loop
-Inv-loop table from k i j₀ j = (i < j) × (j ≤ k) × Passed (tupleAt table from) i j
+Inv-loop table from k i j₀ j = (i < j) × Passed (tupleAt table from) i j
 
 abbrev μ-loop : tie.MeasureT-loop
 μ-loop table from k i j₀ j = k - j
@@ -39,7 +39,7 @@ add-j : tie.Need-add-j Inv-loop μ-loop Inv-search μ-search
 add-j c = omega arith
 
 loop-holds : tie.Need-loop-holds Inv-loop μ-loop Inv-search μ-search
-loop-holds c = (omega arith, omega arith, λ p l h e. omega arith)
+loop-holds c = (omega arith, λ p l h e. omega arith)
 
 add-if2 : tie.Need-add-if2 Inv-loop μ-loop Inv-search μ-search
 add-if2 c = omega arith
@@ -66,7 +66,7 @@ loop-less : tie.Need-loop-less Inv-loop μ-loop Inv-search μ-search
 loop-less c = omega arith
 
 loop-again : tie.Need-loop-again Inv-loop μ-loop Inv-search μ-search
-loop-again c = (omega arith, omega arith, below-more _ _ (c .before .before .before .before .loop .inv .2) (λ h. c .if2 .left))
+loop-again c = (omega arith, below-more _ _ (c .before .before .before .before .loop .inv .1) (λ h. c .if2 .left))
 
 add-i : tie.Need-add-i Inv-loop μ-loop Inv-search μ-search
 add-i c = omega arith
@@ -80,7 +80,7 @@ search-again c =
     let tuple = tupleAt (b .before .args .table .now) (b .before .args .from) in
     let k = b .before .args .k in
     let i = b .search .i in
-    let none : again tuple k i ≡ false = again-none tuple k i (λ p h l. c .before .loop .inv .2 p (omega arith) h) in
+    let none : again tuple k i ≡ false = again-none tuple k i (λ p h l. c .before .loop .inv .1 p (omega arith) h) in
     (omega arith, every-next i (λ p. not (again tuple k p)) (b .search .inv .1) (ap not none))
 
 returns : tie.Need-returns Inv-loop μ-loop Inv-search μ-search

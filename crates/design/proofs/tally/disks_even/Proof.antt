@@ -1,75 +1,20 @@
--- `design::tally::disks_even` meets its contract. The loop's invariant: each disk passed is counted r times.
--- The measure is the number of disks left. Assumes nothing.
-use mathlib.Core.Path.{_≡_, sym, _∙_}
-use mathlib.Core.Bool.{true}
-use Prim.Native.Nat.{_*_, _+_, _-_, _≤_}
+-- `design::tally::disks_even` meets its contract: the counts of a disk with itself stand 65 apart. Assumes nothing.
+use mathlib.Core.Path.{ap}
+use Prim.Native.Nat.{ℕ}
 use native.Mathlib.Omega.{arith}
 use lib.Dec.{eqb}
 use lib.ListN.{getD}
-use borrow.Author.Needs.{needs}
-use borrow.Author.Tests.{eq-eqb, ne-eqb}
-use Rattle.design.specs.Count.{every}
-use Rattle.design.proofs.Counting.{every-not, every-none, every-next, every-end}
+use Rattle.design.proofs.Counting.{every-ext}
 use Rattle.design.proofs.tally.disks_even.Statement.{statement}
 use Rattle.design.proofs.tally.disks_even.Tie as tie
 
-abbrev Inv-loop : tie.InvT-loop
-Inv-loop counts v r d₀ d = (d ≤ v) × (every d (λ e. eqb (getD counts (e * 64 + e) 0) r) ≡ true)
+all-are-requires : tie.Need-all-are-requires
+all-are-requires c κs = omega arith
 
-abbrev μ-loop : tie.MeasureT-loop
-μ-loop counts v r d₀ d = v - d
-
-loop-holds : tie.Need-loop-holds Inv-loop μ-loop
-loop-holds c = (omega arith, every-none _)
-
-mul-wide : tie.Need-mul-wide Inv-loop μ-loop
-mul-wide c = omega arith
-
-add-wide : tie.Need-add-wide Inv-loop μ-loop
-add-wide c = omega arith
-
-mul-wide-2 : tie.Need-mul-wide-2 Inv-loop μ-loop
-mul-wide-2 c = omega arith
-
-element-copy-out-wide : tie.Need-element-copy-out-wide Inv-loop μ-loop
-element-copy-out-wide c = omega arith
-
-wide-requires : tie.Need-wide-requires Inv-loop μ-loop
-wide-requires c κs = search needs
-
-returns : tie.Need-returns Inv-loop μ-loop
+returns : tie.Need-returns
 returns c =
-    let a = c .before .before .before .before in
-    sym (every-not _ _ (a .loop .d) (c .before .before .before .loop-test .taken) (ne-eqb _ _ (λ e. c .if1 .taken (c .before .wide .ensures ∙ e))))
-
-add-d : tie.Need-add-d Inv-loop μ-loop
-add-d c = omega arith
-
-loop-less : tie.Need-loop-less Inv-loop μ-loop
-loop-less c = omega arith
-
-loop-again : tie.Need-loop-again Inv-loop μ-loop
-loop-again c =
-    let a = c .before .before .before .before in
-    (omega arith, every-next _ _ (a .loop .inv .1) (eq-eqb _ _ (sym (c .before .wide .ensures) ∙ c .if1 .left)))
-
-returns-2 : tie.Need-returns-2 Inv-loop μ-loop
-returns-2 c = every-end _ _ _ (c .before .loop .inv .0) (c .loop-test .left) (c .before .loop .inv .1)
+    let a = c .before .args in
+    rw (c .all-are .ensures) (every-ext _ _ _ (λ d l. ap (λ (x : ℕ). eqb (getD (a .counts .now) x 0) (a .r)) (omega arith)))
 
 pub disks-even-spec : {M : Type 1} → statement M
-disks-even-spec =
-    tie.close
-    (tie.spec
-    Inv-loop
-    μ-loop
-    loop-holds
-    mul-wide
-    add-wide
-    mul-wide-2
-    element-copy-out-wide
-    wide-requires
-    returns
-    add-d
-    loop-less
-    loop-again
-    returns-2)
+disks-even-spec = tie.close (tie.spec all-are-requires returns)

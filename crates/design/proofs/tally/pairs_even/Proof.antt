@@ -1,14 +1,14 @@
 -- `design::tally::pairs_even` meets its contract. The loop's invariant: every two of the disks passed are counted together lambda times.
 -- The measure is the number of disks left. Assumes nothing.
-use mathlib.Core.Path.{_≡_, sym, _∙_}
+use mathlib.Core.Path.{_≡_, sym, ap, _∙_}
 use mathlib.Core.Bool.{true}
-use Prim.Native.Nat.{_*_, _+_, _-_, _≤_}
+use Prim.Native.Nat.{ℕ, _*_, _+_, _-_, _≤_}
 use native.Mathlib.Omega.{arith}
 use lib.Dec.{eqb}
 use lib.ListN.{getD}
 use borrow.Author.Tests.{not-true, not-false}
 use Rattle.design.specs.Count.{every}
-use Rattle.design.proofs.Counting.{every-not, every-none, every-next, every-end}
+use Rattle.design.proofs.Counting.{every-ext, every-not, every-none, every-next, every-end}
 use Rattle.design.proofs.tally.pairs_even.Statement.{statement}
 use Rattle.design.proofs.tally.pairs_even.Tie as tie
 
@@ -22,13 +22,23 @@ abbrev μ-loop : tie.MeasureT-loop
 loop-holds : tie.Need-loop-holds Inv-loop μ-loop
 loop-holds c = (omega arith, every-none _)
 
-row-even-requires : tie.Need-row-even-requires Inv-loop μ-loop
-row-even-requires c κs = omega arith
+mul-all-are : tie.Need-mul-all-are Inv-loop μ-loop
+mul-all-are c = omega arith
+
+all-are-requires : tie.Need-all-are-requires Inv-loop μ-loop
+all-are-requires c κs = omega arith
+
+-- the answer is that of row d
+row : (c : tie.After-all-are Inv-loop μ-loop) → let l = c .before .before in
+    c .all-are .result ≡ every (l .loop .d) (λ e. eqb (getD (l .before .args .counts .now) (l .loop .d * 64 + e) 0) (l .before .args .lambda))
+row c =
+    let a = c .before .before .before .args in
+    rw (c .all-are .ensures) (every-ext _ _ _ (λ e l. ap (λ (x : ℕ). eqb (getD (a .counts .now) x 0) (a .lambda)) (omega arith)))
 
 returns : tie.Need-returns Inv-loop μ-loop
 returns c =
     let a = c .before .before .before in
-    sym (every-not _ _ (a .loop .d) (c .before .before .loop-test .taken) (sym (c .before .row-even .ensures) ∙ not-true _ (c .if1 .taken)))
+    sym (every-not _ _ (a .loop .d) (c .before .before .loop-test .taken) (sym (row (c .before)) ∙ not-true _ (c .if1 .taken)))
 
 add-d : tie.Need-add-d Inv-loop μ-loop
 add-d c = omega arith
@@ -39,7 +49,7 @@ loop-less c = omega arith
 loop-again : tie.Need-loop-again Inv-loop μ-loop
 loop-again c =
     let a = c .before .before .before in
-    (omega arith, every-next _ _ (a .loop .inv .1) (sym (c .before .row-even .ensures) ∙ not-false _ (c .if1 .left)))
+    (omega arith, every-next _ _ (a .loop .inv .1) (sym (row (c .before)) ∙ not-false _ (c .if1 .left)))
 
 returns-2 : tie.Need-returns-2 Inv-loop μ-loop
 returns-2 c = every-end _ _ _ (c .before .loop .inv .0) (c .loop-test .left) (c .before .loop .inv .1)
@@ -51,7 +61,8 @@ pairs-even-spec =
     Inv-loop
     μ-loop
     loop-holds
-    row-even-requires
+    mul-all-are
+    all-are-requires
     returns
     add-d
     loop-less

@@ -1,8 +1,9 @@
--- `design::tally::row_even` meets its contract. The loop's invariant: d is counted lambda times with each disk passed.
--- The measure is the number of disks left. Assumes nothing.
+-- `design::tally::all_are` meets its contract. The loop's invariant: the counts passed are all the value. The measure is the number
+-- of counts left. Assumes nothing.
 use mathlib.Core.Path.{_≡_, sym, _∙_}
 use mathlib.Core.Bool.{true}
-use Prim.Native.Nat.{_*_, _+_, _-_, _≤_}
+use Prim.Native.Nat.{_*_, _+_, _-_, _≤_, _<_}
+use native.Mathlib.Nat.{mul-le-mul-left}
 use native.Mathlib.Omega.{arith}
 use lib.Dec.{eqb}
 use lib.ListN.{getD}
@@ -10,29 +11,32 @@ use borrow.Author.Needs.{needs}
 use borrow.Author.Tests.{eq-eqb, ne-eqb}
 use Rattle.design.specs.Count.{every}
 use Rattle.design.proofs.Counting.{every-not, every-none, every-next, every-end}
-use Rattle.design.proofs.tally.row_even.Statement.{statement}
-use Rattle.design.proofs.tally.row_even.Tie as tie
+use Rattle.design.proofs.tally.all_are.Statement.{statement}
+use Rattle.design.proofs.tally.all_are.Tie as tie
 
 abbrev Inv-loop : tie.InvT-loop
-Inv-loop counts d lambda e₀ e = (e ≤ d) × (every e (λ i. eqb (getD counts (d * 64 + i) 0) lambda) ≡ true)
+Inv-loop counts from step n value i₀ i = (i ≤ n) × (every i (λ j. eqb (getD counts (from + step * j) 0) value) ≡ true)
 
 abbrev μ-loop : tie.MeasureT-loop
-μ-loop counts d lambda e₀ e = d - e
+μ-loop counts from step n value i₀ i = n - i
+
+within : (c : tie.In-loop Inv-loop μ-loop) → let a = c .before .before .args in a .from + a .step * c .before .loop .i < 4096
+within c = omega (arith, mul-le-mul-left (c .before .before .args .step) (c .loop-test .taken))
 
 loop-holds : tie.Need-loop-holds Inv-loop μ-loop
 loop-holds c = (omega arith, every-none _)
 
 mul-wide : tie.Need-mul-wide Inv-loop μ-loop
-mul-wide c = omega arith
+mul-wide c = omega (arith, within c)
 
 add-wide : tie.Need-add-wide Inv-loop μ-loop
-add-wide c = omega arith
+add-wide c = omega (arith, within c)
 
 mul-wide-2 : tie.Need-mul-wide-2 Inv-loop μ-loop
-mul-wide-2 c = omega arith
+mul-wide-2 c = omega (arith, within c)
 
 element-copy-out-wide : tie.Need-element-copy-out-wide Inv-loop μ-loop
-element-copy-out-wide c = omega arith
+element-copy-out-wide c = omega (arith, within c)
 
 wide-requires : tie.Need-wide-requires Inv-loop μ-loop
 wide-requires c κs = search needs
@@ -40,10 +44,10 @@ wide-requires c κs = search needs
 returns : tie.Need-returns Inv-loop μ-loop
 returns c =
     let a = c .before .before .before .before in
-    sym (every-not _ _ (a .loop .e) (c .before .before .before .loop-test .taken) (ne-eqb _ _ (λ e. c .if1 .taken (c .before .wide .ensures ∙ e))))
+    sym (every-not _ _ (a .loop .i) (c .before .before .before .loop-test .taken) (ne-eqb _ _ (λ e. c .if1 .taken (c .before .wide .ensures ∙ e))))
 
-add-e : tie.Need-add-e Inv-loop μ-loop
-add-e c = omega arith
+add-i : tie.Need-add-i Inv-loop μ-loop
+add-i c = omega arith
 
 loop-less : tie.Need-loop-less Inv-loop μ-loop
 loop-less c = omega arith
@@ -56,8 +60,8 @@ loop-again c =
 returns-2 : tie.Need-returns-2 Inv-loop μ-loop
 returns-2 c = every-end _ _ _ (c .before .loop .inv .0) (c .loop-test .left) (c .before .loop .inv .1)
 
-pub row-even-spec : {M : Type 1} → statement M
-row-even-spec =
+pub all-are-spec : {M : Type 1} → statement M
+all-are-spec =
     tie.close
     (tie.spec
     Inv-loop
@@ -69,7 +73,7 @@ row-even-spec =
     element-copy-out-wide
     wide-requires
     returns
-    add-e
+    add-i
     loop-less
     loop-again
     returns-2)

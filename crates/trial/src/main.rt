@@ -1,0 +1,95 @@
+// Runs cases through the library: each line of standard input is a command, and what the library answers is printed. The cases
+// are the crate's file stdin, and stdout has the answers by document 01. In a heading there, a name such as B-4 is an entry of
+// the list of readings that docs/DECISIONS.md cites.
+//
+// A line's words are set apart by single spaces. A number is decimal, below 2^64. BYTES are pairs of hexadecimal digits in
+// upper case, at most 2,048 pairs, or `-` for none.
+//
+// # TEXT, or an empty line      printed as it is
+//
+// Bit fields (module bits):
+// read AT WIDTH BYTES           prints `read VALUE`, or `read none`
+// write AT WIDTH VALUE BYTES    prints `write done` or `write none`, and the bytes after it
+//
+// The sheet (module sheets):
+// open BYTES                    opens the sheet: prints `open`, 0 or the refusal's number, and after a 0 v k b T u r lambda.
+//                               The shelf that it gives is the current one from then on, also the empty one of a refusal
+// repeat TIMES BYTES            adds the bytes to the pending ones, so many times; prints nothing
+// openpending                   opens the pending bytes as a sheet, as `open` does, and clears them
+// back N                        writes the current shelf back into N bytes (at most 2,048) that are AA before: prints
+//                               `back LENGTH` or `back refused NUMBER`, and the N bytes after it
+//
+// The shelf value (module values). The first four change the current shelf and print nothing:
+// field NAME VALUE              sets a number of it; NAME is v, k, b, T, u, r or lambda
+// table I ENTRY                 sets an entry of its table
+// lost DISK                     has the disk lost, and no other
+// whole                         has no disk lost
+// shelf                         prints `shelf 0` where the current shelf passes for one, else `shelf 10`
+// show                          prints the numbers of the current shelf, its loss, and after a colon the b·k entries in use
+//
+// Any other line is printed after `? `, and so is one whose number is too large for its command.
+//
+// A layer has a module with a function `run`, which says whether the line is one of its commands; `step` asks each in turn.
+// A new command is a pattern (see words::fits) and a function in its layer's module.
+mod bits;
+mod held;
+mod print;
+mod sheets;
+mod values;
+mod words;
+
+use held::Held;
+
+// An empty line, or a comment.
+fn is_note(line: &[u8]) -> bool {
+    if line.len() == 0 {
+        return true;
+    }
+    line[0] == b'#'
+}
+
+fn step(held: Held, line: &[u8]) -> Held {
+    if is_note(line) {
+        print::text(line);
+        print::end();
+        return held;
+    }
+    if bits::run(line) {
+        return held;
+    }
+    let sheet = sheets::run(held, line);
+    if sheet.known {
+        return sheet.held;
+    }
+    let value = values::run(held, line);
+    if value.known {
+        return value.held;
+    }
+    print::text(b"? ");
+    print::text(line);
+    print::end();
+    held
+}
+
+fn run(text: &[u8]) {
+    let mut held = Held::new();
+    let mut at = 0;
+    while at < text.len() {
+        let end = words::find(text, at, b'\n');
+        held = step(held, &text[at..end]);
+        if end == text.len() {
+            return;
+        }
+        at = end + 1;
+    }
+}
+
+fn main() {
+    let mut input = [0u8; 131072];
+    let n = io::read_full(libc::STDIN_FILENO, &mut input);
+    if n == input.len() {
+        print::text(b"? the input is too long\n");
+        return;
+    }
+    run(&input[..n]);
+}
