@@ -12,3 +12,4 @@ pub mod Standing
 pub mod Written
 pub mod RoundTrip
 pub mod WritingBack
+pub mod Unique

@@ -27,12 +27,21 @@
 // shelf                         prints `shelf 0` where the current shelf passes for one, else `shelf 10`
 // show                          prints the numbers of the current shelf, its loss, and after a colon the b·k entries in use
 //
+// Placement on the current shelf (module places). A place is printed as DISK:OFFSET:
+// place ADDRESS                 prints `place`, its place, `parity` and the parity's place, or `place` and the refusal's number
+// find DISK OFFSET              looks the place up: prints `find stripe S address A` or `find stripe S parity`, or `find` and the
+//                               refusal's number
+// everywhere                    places each address from 0 up to the first refused one, at most 100,000, and looks its place and
+//                               the parity's up: prints `everywhere COUNT` where each gives the address and its stripe's parity,
+//                               else `everywhere differs at A` with the first that does not
+//
 // Any other line is printed after `? `, and so is one whose number is too large for its command.
 //
 // A layer has a module with a function `run`, which says whether the line is one of its commands; `step` asks each in turn.
 // A new command is a pattern (see words::fits) and a function in its layer's module.
 mod bits;
 mod held;
+mod places;
 mod print;
 mod sheets;
 mod values;
@@ -64,6 +73,10 @@ fn step(held: Held, line: &[u8]) -> Held {
     let value = values::run(held, line);
     if value.known {
         return value.held;
+    }
+    let place = places::run(held, line);
+    if place.known {
+        return place.held;
     }
     print::text(b"? ");
     print::text(line);

@@ -1,4 +1,4 @@
-// Printing to standard output. A number and bytes have a space in front.
+// Printing to standard output. A number, a place and bytes have a space in front.
 ghost use Prim.Native.Nat.{_<_};
 
 pub fn text(bytes: &[u8]) {
@@ -9,9 +9,19 @@ pub fn end() {
     text(b"\n");
 }
 
+fn decimal(n: usize) {
+    io::print_decimal(libc::STDOUT_FILENO, n as u64);
+}
+
 pub fn number(n: usize) {
     text(b" ");
-    io::print_decimal(libc::STDOUT_FILENO, n as u64);
+    decimal(n);
+}
+
+pub fn place(disk: usize, offset: usize) {
+    number(disk);
+    text(b":");
+    decimal(offset);
 }
 
 fn glyph(digit: u8) -> u8

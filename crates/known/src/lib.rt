@@ -1,0 +1,1 @@
+// Theorems only: the known answers of document 01 (see specs/).

@@ -1,0 +1,192 @@
+-- When each call on the image is accepted. Assumes nothing.
+use mathlib.Core.Path.{_≡_, refl, sym}
+use mathlib.Core.Logic.{_↔_}
+use mathlib.Core.Bool.{true, not, true≢false}
+use mathlib.Core.List.{List, [], _∷_}
+use Prim.Native.Nat.{ℕ, _+_, _-_, _*_, _<_}
+use native.Mathlib.Omega.{arith}
+use lib.Dec.{ltb}
+use lib.ListN.{length}
+use borrow.Author.Tests.{lt-ltb, ltb-true, eq-eqb, eqb-true}
+use Rattle.design.specs.declared.Loss.{Loss}
+use Rattle.design.specs.declared.Loss.the-variants.{Nothing, Disk}
+use Rattle.design.specs.declared.Shelf.{Shelf}
+use Rattle.design.specs.declared.Verdict.the-variants.{Accepted}
+use Rattle.design.specs.Refusals.{Rule, firstBroken}
+use Rattle.design.specs.Shelf.{isShelf, shelfRule}
+use Rattle.design.proofs.Counting.{both, both-of}
+use Rattle.placement.specs.Layout.{layoutIn, stripes, addresses, stripeOf, jOf}
+use Rattle.placement.proofs.Even.{even-shelf}
+use Rattle.placement.proofs.Stands.{j-lt, stripe-below}
+use Rattle.parity.specs.Stripe.{unitSize, depth, imageSize, present}
+use Rattle.parity.specs.Calls.{imageRule, addressRule, stripeRule, diskRule, placeRule, bufferRule, wholeRule, lostRule, isWhole, wholeRules, unitRules, stripeRules, loseRules, rebuildRules, placeRules, presentRule}
+use Rattle.parity.proofs.Cases.{cases}
+
+-- ---- rule after rule
+
+pub rule-kept : (x : Rule) (rules : List Rule) → (firstBroken (x ∷ rules) ≡ Accepted) ↔ ((x .kept ≡ true) × (firstBroken rules ≡ Accepted))
+unfolding firstBroken
+rule-kept x rules = (parts, λ p. rw (p .0) (p .1))
+  where
+    parts : firstBroken (x ∷ rules) ≡ Accepted → (x .kept ≡ true) × (firstBroken rules ≡ Accepted)
+    parts e = cases (x .kept) (λ t. (t, rw t at e)) (λ t. let z : _≡_ {A = ℕ} 0 1 = cc (rw t at e) in absurd (omega arith))
+
+-- the shelf is one, and the image has its size
+pub record ImageOf (h : Shelf) (image : List ℕ) : Type 0 where
+  pub shelf : isShelf h ≡ true
+  pub size : length image ≡ imageSize h
+
+pub image-kept : (h : Shelf) (image : List ℕ) (rules : List Rule)
+    → (firstBroken (shelfRule h ∷ imageRule h (length image) ∷ rules) ≡ Accepted) ↔ (ImageOf h image × (firstBroken rules ≡ Accepted))
+image-kept h image rules = (parts, whole)
+  where
+    parts : firstBroken (shelfRule h ∷ imageRule h (length image) ∷ rules) ≡ Accepted → ImageOf h image × (firstBroken rules ≡ Accepted)
+    parts e =
+        let p = rule-kept (shelfRule h) (imageRule h (length image) ∷ rules) .0 e in
+        let q = rule-kept (imageRule h (length image)) rules .0 (p .1) in
+        (record { shelf = p .0; size = eqb-true _ _ (q .0) }, q .1)
+
+    whole : ImageOf h image × (firstBroken rules ≡ Accepted) → firstBroken (shelfRule h ∷ imageRule h (length image) ∷ rules) ≡ Accepted
+    whole p =
+        rule-kept (shelfRule h) (imageRule h (length image) ∷ rules) .1
+        (p .0 .shelf, rule-kept (imageRule h (length image)) rules .1 (eq-eqb _ _ (p .0 .size), p .1))
+
+-- the last two rules of a list, and the last one
+last-kept : (x : Rule) → (firstBroken (x ∷ []) ≡ Accepted) ↔ (x .kept ≡ true)
+unfolding firstBroken
+last-kept x = (λ e. rule-kept x [] .0 e .0, λ e. rule-kept x [] .1 (e, refl))
+
+two-kept : (x y : Rule) → (firstBroken (x ∷ y ∷ []) ≡ Accepted) ↔ ((x .kept ≡ true) × (y .kept ≡ true))
+two-kept x y = (
+  λ e. let p = rule-kept x (y ∷ []) .0 e in (p .0, last-kept y .0 (p .1)),
+  λ p. rule-kept x (y ∷ []) .1 (p .0, last-kept y .1 (p .1)),
+)
+
+-- ---- the lost disk
+
+pub whole-exactly : (loss : Loss) → (isWhole loss ≡ true) ↔ (loss ≡ Nothing)
+whole-exactly Nothing = (λ e. refl, λ e. refl)
+whole-exactly (Disk d) = (λ e. absurd (true≢false (sym e)), λ e. let z : _≡_ {A = ℕ} 0 1 = cc in absurd (omega arith))
+
+-- the disk that is lost
+pub record Lost (h : Shelf) : Type 0 where
+  pub disk : ℕ
+  pub loss : h .loss ≡ Disk disk
+
+lost-exactly : (h : Shelf) → (not (isWhole (h .loss)) ≡ true) ↔ Lost h
+lost-exactly h = (λ e. find (h .loss) refl e, λ l. rw (l .loss))
+  where
+    find : (loss : Loss) → h .loss ≡ loss → not (isWhole loss) ≡ true → Lost h
+    find Nothing p e = absurd (true≢false (sym e))
+    find (Disk d) p e = record { disk = d; loss = p }
+
+-- ---- blank and scrub
+
+pub record WholeCall (h : Shelf) (image : List ℕ) : Type 0 where
+  pub stored : ImageOf h image
+  pub whole : h .loss ≡ Nothing
+
+module _ (h : Shelf) (image : List ℕ) where
+  pub whole-accepted : (firstBroken (wholeRules h (length image)) ≡ Accepted) ↔ WholeCall h image
+  unfolding wholeRules
+  whole-accepted =
+      let at = image-kept h image (wholeRule h ∷ []) in
+      let lost = whole-exactly (h .loss) in
+      let kept = last-kept (wholeRule h) in (
+        λ e. record { stored = at .0 e .0; whole = lost .0 (kept .0 (at .0 e .1)) },
+        λ w. at .1 (w .stored, kept .1 (lost .1 (w .whole))),
+      )
+
+-- ---- rebuild
+
+pub record LostCall (h : Shelf) (image : List ℕ) : Type 0 where
+  pub stored : ImageOf h image
+  pub lost : Lost h
+
+pub rebuild-accepted : (h : Shelf) (image : List ℕ) → (firstBroken (rebuildRules h (length image)) ≡ Accepted) ↔ LostCall h image
+unfolding rebuildRules
+rebuild-accepted h image =
+    let at = image-kept h image (lostRule h ∷ []) in
+    let lost = lost-exactly h in
+    let kept = last-kept (lostRule h) in (
+      λ e. record { stored = at .0 e .0; lost = lost .0 (kept .0 (at .0 e .1)) },
+      λ w. at .1 (w .stored, kept .1 (lost .1 (w .lost))),
+    )
+
+-- ---- lose
+
+pub record LoseCall (h : Shelf) (d : ℕ) : Type 0 where
+  pub shelf : isShelf h ≡ true
+  pub disk : d < h .v
+  pub whole : h .loss ≡ Nothing
+
+pub lose-accepted : (h : Shelf) (d : ℕ) → (firstBroken (loseRules h d) ≡ Accepted) ↔ LoseCall h d
+unfolding loseRules
+lose-accepted h d =
+    let at = rule-kept (shelfRule h) (diskRule h d ∷ wholeRule h ∷ []) in
+    let kept = two-kept (diskRule h d) (wholeRule h) in
+    let lost = whole-exactly (h .loss) in (
+      λ e. let q = kept .0 (at .0 e .1) in record { shelf = at .0 e .0; disk = ltb-true d (h .v) (q .0); whole = lost .0 (q .1) },
+      λ w. at .1 (w .shelf, kept .1 (lt-ltb d (h .v) (w .disk), lost .1 (w .whole))),
+    )
+
+-- ---- a read, a unit write, show address
+
+pub record UnitCall (h : Shelf) (image : List ℕ) (a : ℕ) (unit : List ℕ) : Type 0 where
+  pub stored : ImageOf h image
+  pub address : a < addresses (layoutIn h)
+  pub exact : length unit ≡ unitSize h
+
+module _ (h : Shelf) (image : List ℕ) (a : ℕ) (unit : List ℕ) where
+  pub unit-accepted : (firstBroken (unitRules h (length image) a (length unit)) ≡ Accepted) ↔ UnitCall h image a unit
+  unfolding unitRules
+  unit-accepted =
+      let at = image-kept h image (addressRule h a ∷ bufferRule h (length unit) 1 ∷ []) in
+      let kept = two-kept (addressRule h a) (bufferRule h (length unit) 1) in (
+        λ e. let q = kept .0 (at .0 e .1) in record { stored = at .0 e .0; address = ltb-true a _ (q .0); exact = omega (arith, eqb-true (length unit) (1 * unitSize h) (q .1)) },
+        λ w. at .1 (w .stored, kept .1 (lt-ltb a _ (w .address), eq-eqb (length unit) (1 * unitSize h) (omega (arith, w .exact)))),
+      )
+
+-- the stripe and the data of its address
+module _ {h : Shelf} {image : List ℕ} {a : ℕ} {unit : List ℕ} (w : UnitCall h image a unit) where
+  pub call-stripe-lt : stripeOf (layoutIn h) a < stripes (layoutIn h)
+  call-stripe-lt = stripe-below (layoutIn h) (even-shelf h (w .stored .shelf)) a .1 (w .address)
+
+  pub call-data-lt : jOf (layoutIn h) a < h .k - 1
+  call-data-lt = j-lt (layoutIn h) (even-shelf h (w .stored .shelf)) a
+
+-- ---- a stripe write
+
+pub record StripeCall (h : Shelf) (image : List ℕ) (s : ℕ) (buffer : List ℕ) : Type 0 where
+  pub stored : ImageOf h image
+  pub stripe : s < stripes (layoutIn h)
+  pub exact : length buffer ≡ (h .k - 1) * unitSize h
+
+pub stripe-write-accepted : (h : Shelf) (image : List ℕ) (s : ℕ) (buffer : List ℕ) → (firstBroken (stripeRules h (length image) s (length buffer)) ≡ Accepted) ↔ StripeCall h image s buffer
+unfolding stripeRules
+stripe-write-accepted h image s buffer =
+    let at = image-kept h image (stripeRule h s ∷ bufferRule h (length buffer) (h .k - 1) ∷ []) in
+    let kept = two-kept (stripeRule h s) (bufferRule h (length buffer) (h .k - 1)) in (
+      λ e. let q = kept .0 (at .0 e .1) in record { stored = at .0 e .0; stripe = ltb-true s _ (q .0); exact = eqb-true _ _ (q .1) },
+      λ w. at .1 (w .stored, kept .1 (lt-ltb s _ (w .stripe), eq-eqb _ _ (w .exact))),
+    )
+
+-- ---- show place
+
+pub record PlaceCall (h : Shelf) (image : List ℕ) (d o : ℕ) : Type 0 where
+  pub stored : ImageOf h image
+  pub disk : d < h .v
+  pub offset : o < depth h
+  pub here : present h (d * depth h + o) ≡ true
+
+pub show-place-accepted : (h : Shelf) (image : List ℕ) (d o : ℕ) → (firstBroken (placeRules h (length image) d o) ≡ Accepted) ↔ PlaceCall h image d o
+unfolding placeRules
+show-place-accepted h image d o =
+    let at = image-kept h image (placeRule h d o ∷ presentRule h (d * depth h + o) ∷ []) in
+    let kept = two-kept (placeRule h d o) (presentRule h (d * depth h + o)) in (
+      λ e.
+          let q = kept .0 (at .0 e .1) in
+          let l = both (ltb d (h .v)) (ltb o (depth h)) (q .0) in
+          record { stored = at .0 e .0; disk = ltb-true d _ (l .0); offset = ltb-true o _ (l .1); here = q .1 },
+      λ w. at .1 (w .stored, kept .1 (both-of (lt-ltb d _ (w .disk)) (lt-ltb o _ (w .offset)), w .here)),
+    )

@@ -1,0 +1,132 @@
+-- The units of a stripe mixed, one in each turn, into a unit of it that was cleared, or into a lent unit. Assumes nothing.
+use mathlib.Core.Path.{_≡_, refl, sym, ap, ap₂, _∙_}
+use mathlib.Core.Logic.{_≢_}
+use mathlib.Core.List.{List}
+use Prim.Native.Nat.{ℕ, _+_, _*_, _≤_, _<_}
+use native.Mathlib.Omega.{arith}
+use lib.ListN.{length, length-replicate}
+use borrow.Author.Tests.{eq-eqb}
+use Rattle.parity.specs.declared.Shape.{Shape}
+use Rattle.parity.specs.Units.{zeros, unitAt, xorU, xorSum, put}
+use Rattle.parity.specs.Stores.{putUnit}
+use Rattle.parity.specs.Sums.{Placed, numberBy, unitBy, sumWith}
+use Rattle.parity.proofs.Cases.{put-other, put-ext}
+use Rattle.parity.proofs.Xor.{xorU-length}
+use Rattle.parity.proofs.Put.{unit-size, put-size, put-there}
+use Rattle.parity.proofs.Summing.{sum-next, sum-over, Summed, summed-none, summed-next, summed-skip, summed-other, summed-all}
+
+-- ---- the units of a stripe, mixed into unit t of it
+
+-- the units of stripe s, with x for unit i
+abbrev pub unitsWith : List ℕ → List ℕ → Shape → ℕ → ℕ → List ℕ → List ℕ → ℕ → List ℕ
+unitsWith table ranks shape s i x image = put (unitBy table ranks shape image s) i x
+
+-- unit t, whose number is `to`, is the exclusive-or of the first j of them
+pub record StripeSum (table ranks : List ℕ) (shape : Shape) (s t i : ℕ) (x : List ℕ) (to : ℕ) (was now : List ℕ) (j : ℕ) : Type 0 where
+  pub placed : Placed table ranks shape s (length was)
+  pub below : t < shape .k
+  pub number : to ≡ numberBy table ranks shape s t
+  pub sum : Summed (shape .size) was to (unitsWith table ranks shape s i x was) now j
+
+module _ {table ranks : List ℕ} {shape : Shape} {s : ℕ} where
+  pub place-fits : {n t to : ℕ} → Placed table ranks shape s n → t < shape .k → to ≡ numberBy table ranks shape s t → to * shape .size + shape .size ≤ n
+  place-fits P l e = rw e (P .within _ l)
+
+  module _ {t i : ℕ} {x : List ℕ} {to : ℕ} where
+    pub stripe-none : (before : List ℕ) {was : List ℕ} → Placed table ranks shape s (length before) → t < shape .k → to ≡ numberBy table ranks shape s t
+        → was ≡ putUnit (shape .size) before to (zeros (shape .size)) → StripeSum table ranks shape s t i x to was was 0
+    stripe-none before P l e cleared =
+        let fits : to * shape .size + shape .size ≤ length before = place-fits P l e in
+        record {
+          placed = rw (ap length cleared ∙ put-size (shape .size) before to (zeros (shape .size)) fits (length-replicate (shape .size) 0)) P;
+          below = l;
+          number = e;
+          sum = summed-none _ _ to _ before fits cleared;
+        }
+
+    module _ {was now : List ℕ} {j : ℕ} (S : StripeSum table ranks shape s t i x to was now j) where
+      next : {after : List ℕ} → Summed (shape .size) was to (unitsWith table ranks shape s i x was) after (j + 1) → StripeSum table ranks shape s t i x to was after (j + 1)
+      next sum = record { placed = S .placed; below = S .below; number = S .number; sum = sum }
+
+      apart : {m from : ℕ} → m < shape .k → from ≡ numberBy table ranks shape s m → m ≢ t → from ≢ to
+      apart {m} l e ne same = ne (S .placed .apart m t l (S .below) (sym e ∙ same ∙ S .number))
+
+      -- unit j can be mixed in
+      pub stripe-mixes : {from : ℕ} → j < shape .k → from ≡ numberBy table ranks shape s j → j ≢ t
+          → (to * shape .size + shape .size ≤ length now) × (from * shape .size + shape .size ≤ length now) × (to ≢ from)
+      stripe-mixes l e ne = (
+        omega (arith, S .sum .fits, S .sum .same),
+        omega (arith, place-fits (S .placed) l e, S .sum .same),
+        λ same. apart l e ne (sym same),
+      )
+
+      -- unit j is mixed in, which is not unit i
+      pub stripe-next : {from : ℕ} {after : List ℕ} → j < shape .k → from ≡ numberBy table ranks shape s j → j ≢ t → j ≢ i
+          → after ≡ putUnit (shape .size) now to (xorU (unitAt (shape .size) now to) (unitAt (shape .size) now from))
+          → StripeSum table ranks shape s t i x to was after (j + 1)
+      stripe-next {from} {after} l e nt ni stored =
+          let U : ℕ = shape .size in
+          let fits : from * U + U ≤ length was = place-fits (S .placed) l e in
+          let same : unitAt U now from ≡ unitAt U was from = summed-other U was to _ now j (S .sum) from fits (apart l e nt) in
+          next
+          (summed-next U was to _ now j (S .sum) after (unitAt U now from)
+          (ap length same ∙ unit-size U was from fits)
+          (same ∙ ap (unitAt U was) e ∙ sym (put-other (unitBy table ranks shape was s) i x j ni))
+          stored)
+
+      -- j is i: x is mixed in, or all zeros and passed over
+      pub stripe-lent : {after : List ℕ} → j ≡ i → length x ≡ shape .size
+          → after ≡ putUnit (shape .size) now to (xorU (unitAt (shape .size) now to) x) → StripeSum table ranks shape s t i x to was after (j + 1)
+      stripe-lent {after} e size stored = next (summed-next _ was to _ now j (S .sum) after x size (rw (eq-eqb j i e)) stored)
+
+      pub stripe-over : j ≡ i → x ≡ zeros (shape .size) → StripeSum table ranks shape s t i x to was now (j + 1)
+      stripe-over e zero = next (summed-skip _ was to _ now j (S .sum) (rw (eq-eqb j i e) zero))
+
+      -- the end, said of the image before unit t was cleared
+      pub stripe-all : (before : List ℕ) {m : ℕ} → Placed table ranks shape s (length before) → was ≡ putUnit (shape .size) before to (zeros (shape .size))
+          → j ≤ m → m ≤ j → m ≤ shape .k → ((n : ℕ) → n < m → n ≢ i → n ≢ t)
+          → now ≡ putUnit (shape .size) before (numberBy table ranks shape s t) (sumWith table ranks shape before s i x m)
+      stripe-all before {m} P cleared most least room other =
+          let U : ℕ = shape .size in
+          let all : j ≡ m = omega arith in
+          let fits : to * U + U ≤ length before = place-fits P (S .below) (S .number) in
+          let kept : (n : ℕ) → n < m → n ≢ i → unitBy table ranks shape was s n ≡ unitBy table ranks shape before s n =
+          λ n l ni.
+          ap (λ (r : List ℕ). unitBy table ranks shape r s n) cleared
+          ∙ put-there U before to (zeros U) fits (length-replicate U 0) _ (P .within n (omega arith)) (apart (omega arith) refl (other n l ni)) in
+          summed-all U was to _ now m (rw all at (S .sum)) before (unitsWith table ranks shape s i x before) fits cleared
+          (λ n l. put-ext (unitBy table ranks shape was s) (unitBy table ranks shape before s) i x n (kept n l))
+          ∙ ap (λ (o : ℕ). putUnit U before o (sumWith table ranks shape before s i x m)) (S .number)
+
+-- ---- the units of a stripe but unit i, mixed into a lent unit
+
+pub record LentSum (table ranks : List ℕ) (shape : Shape) (s i : ℕ) (image unit : List ℕ) (j : ℕ) : Type 0 where
+  pub size : length unit ≡ shape .size
+  pub is : unit ≡ sumWith table ranks shape image s i (zeros (shape .size)) j
+
+module _ {table ranks : List ℕ} {shape : Shape} {s i : ℕ} {image : List ℕ} where
+  pub lent-none : {unit : List ℕ} → unit ≡ zeros (shape .size) → LentSum table ranks shape s i image unit 0
+  unfolding xorSum
+  lent-none e = record { size = ap length e ∙ length-replicate (shape .size) 0; is = e }
+
+  module _ {unit : List ℕ} {j : ℕ} (S : LentSum table ranks shape s i image unit j) where
+    pub lent-next : {from : ℕ} {after : List ℕ} → Placed table ranks shape s (length image) → j < shape .k → from ≡ numberBy table ranks shape s j → j ≢ i
+        → after ≡ xorU unit (unitAt (length unit) image from) → LentSum table ranks shape s i image after (j + 1)
+    lent-next {from} {after} P l e ne mixed =
+        let U : ℕ = shape .size in
+        let here : after ≡ xorU unit (unitAt U image from) = rw (S .size) at mixed in
+        record {
+          size = ap length here ∙ xorU-length U unit (unitAt U image from) (S .size) (unit-size U image from (place-fits P l e));
+          is =
+              here
+              ∙ ap₂ xorU (S .is) (ap (unitAt U image) e ∙ sym (put-other (unitBy table ranks shape image s) i (zeros U) j ne))
+              ∙ sym (sum-next U (unitsWith table ranks shape s i (zeros U) image) j);
+        }
+
+    pub lent-over : j ≡ i → LentSum table ranks shape s i image unit (j + 1)
+    lent-over e =
+        let f : ℕ → List ℕ = unitsWith table ranks shape s i (zeros (shape .size)) image in
+        record { size = S .size; is = S .is ∙ sym (sum-over (shape .size) f j (ap length (sym (S .is)) ∙ S .size) (rw (eq-eqb j i e))) }
+
+    pub lent-all : {m : ℕ} → j ≤ m → m ≤ j → unit ≡ sumWith table ranks shape image s i (zeros (shape .size)) m
+    lent-all {m} most least = let all : j ≡ m = omega arith in rw all at (S .is)

@@ -1,0 +1,83 @@
+-- `parity::stripe::restore` meets its contract. The loop's invariant: unit i of the stripe is the exclusive-or of the units before unit j
+-- but itself. Assumes nothing.
+use mathlib.Core.Path.{refl, _∙_}
+use mathlib.Core.Logic.{⊎-elim}
+use Prim.Native.Nat.{_-_, _≤_}
+use native.Mathlib.Omega.{arith}
+use borrow.Author.Needs.{needs}
+use Rattle.parity.specs.Units.{zeros}
+use Rattle.parity.proofs.StripeSums.{StripeSum, place-fits, stripe-none, stripe-mixes, stripe-next, stripe-over, stripe-all}
+use Rattle.parity.proofs.stripe.restore.Statement.{statement}
+use Rattle.parity.proofs.stripe.restore.Tie as tie
+
+abbrev Inv-loop : tie.InvT-loop
+Inv-loop image₀ table ranks shape s i k size to j₀ image j = (j ≤ k) × StripeSum table ranks shape s i i (zeros size) to image₀ image j
+
+abbrev μ-loop : tie.MeasureT-loop
+μ-loop image₀ table ranks shape s i k size to j₀ image j = k - j
+
+number-requires : tie.Need-number-requires Inv-loop μ-loop
+number-requires c κs = search needs
+
+clear-unit-requires : tie.Need-clear-unit-requires Inv-loop μ-loop
+clear-unit-requires c κs =
+    let start = c .before .before .before in
+    place-fits (start .pre .0) (start .pre .1) (c .before .number .ensures)
+
+loop-holds : tie.Need-loop-holds Inv-loop μ-loop
+loop-holds c =
+    let start = c .before .before .before .before .before .before in (
+      omega arith,
+      stripe-none (start .args .image .now) (start .pre .0) (start .pre .1) (c .before .before .before .before .number .ensures) (c .before .before .clear-unit .ensures),
+    )
+
+number-requires-2 : tie.Need-number-requires-2 Inv-loop μ-loop
+number-requires-2 c κs = search needs
+
+mix-within-requires : tie.Need-mix-within-requires Inv-loop μ-loop
+mix-within-requires c κs =
+    let turn = c .before .before .before in
+    stripe-mixes (turn .before .loop .inv .1) (turn .loop-test .taken) (c .before .number2 .ensures) (c .before .before .if1 .taken)
+
+add-j : tie.Need-add-j Inv-loop μ-loop
+add-j c = omega arith
+
+loop-less : tie.Need-loop-less Inv-loop μ-loop
+loop-less c = omega arith
+
+loop-again : tie.Need-loop-again Inv-loop μ-loop
+loop-again c =
+    let sum = c .before .before .loop .inv .1 in (
+      omega arith,
+      ⊎-elim
+          (λ w. stripe-next sum (c .before .loop-test .taken) (w .1 .ensures) (w .0 .taken) (w .0 .taken) (w .6 ∙ w .3 .ensures))
+          (λ w. rw (w .1) (stripe-over sum (w .0 .left) refl))
+          (c .if1 .came),
+    )
+
+same-length : tie.Need-same-length Inv-loop μ-loop
+same-length c = c .before .loop .inv .1 .sum .same ∙ c .before .before .before .before .clear-unit .kept .0
+
+returns : tie.Need-returns Inv-loop μ-loop
+returns c =
+    let cleared = c .before .before .before .before in
+    let start = cleared .before .before .before .before in
+    let inv = c .before .loop .inv in
+    stripe-all (inv .1) (start .args .image .now) (start .pre .0) (cleared .clear-unit .ensures) (inv .0) (c .loop-test .left) (omega arith) (λ n l ne. ne)
+
+pub restore-spec : {M : Type 1} → statement M
+restore-spec =
+    tie.close
+    (tie.spec
+    Inv-loop
+    μ-loop
+    number-requires
+    clear-unit-requires
+    loop-holds
+    number-requires-2
+    mix-within-requires
+    add-j
+    loop-less
+    loop-again
+    same-length
+    returns)

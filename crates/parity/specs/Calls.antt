@@ -1,0 +1,206 @@
+-- The promises of the calls on the image (document 01, "The shelf value and the calls"). Each call's rules stand in the order of
+-- their numbers; a refusal changes no byte, hands back the shelf and gives counts of zero.
+use mathlib.Core.Path.{_≡_}
+use mathlib.Core.Bool.{Bool, true, false, not, cond, _&&_, _||_}
+use mathlib.Core.List.{List, [], _∷_}
+use Prim.Native.Nat.{ℕ, _+_, _-_, _*_}
+use lib.Dec.{ltb, eqb}
+use lib.ListN.{length}
+use Rattle.design.specs.declared.Loss.{Loss}
+use Rattle.design.specs.declared.Loss.the-variants.{Nothing, Disk}
+use Rattle.design.specs.declared.Shelf.{Shelf}
+use Rattle.design.specs.declared.Verdict.{Verdict}
+use Rattle.design.specs.declared.Verdict.the-variants.{Accepted, Refused}
+use Rattle.design.specs.declared.Refusal.the-variants.{OtherImage, OutOfRange, OtherBuffer, SomeLost, NoneLost}
+use Rattle.design.specs.Count.{count, listFrom}
+use Rattle.design.specs.Refusals.{Rule, firstBroken}
+use Rattle.design.specs.Tuples.{holds}
+use Rattle.design.specs.Shelf.{shelfRule}
+use Rattle.placement.specs.Layout.{layoutIn, tuples, stripes, addresses, stripeOf, jOf, tupleOf}
+use Rattle.parity.specs.declared.Cost.{Cost}
+use Rattle.parity.specs.declared.Losing.{Losing}
+use Rattle.parity.specs.declared.Rebuilding.{Rebuilding}
+use Rattle.parity.specs.declared.Scrubbing.{Scrubbing}
+use Rattle.parity.specs.Units.{zeros, unitAt, xorU, xorSum, put}
+use Rattle.parity.specs.Stripe.{unitSize, depth, imageSize, unitIn, stripeHere, indexHere, present, cell, others, wrong, patch}
+
+-- ---- the rules; of a buffer they ask its length n alone
+
+abbrev pub imageRule : Shelf → ℕ → Rule
+imageRule h n = record { refusal = OtherImage; kept = eqb n (imageSize h) }
+
+abbrev pub addressRule : Shelf → ℕ → Rule
+addressRule h a = record { refusal = OutOfRange; kept = ltb a (addresses (layoutIn h)) }
+
+abbrev pub stripeRule : Shelf → ℕ → Rule
+stripeRule h s = record { refusal = OutOfRange; kept = ltb s (stripes (layoutIn h)) }
+
+abbrev pub diskRule : Shelf → ℕ → Rule
+diskRule h d = record { refusal = OutOfRange; kept = ltb d (h .v) }
+
+abbrev pub placeRule : Shelf → ℕ → ℕ → Rule
+placeRule h d o = record { refusal = OutOfRange; kept = ltb d (h .v) && ltb o (depth h) }
+
+-- a buffer of so many units
+abbrev pub bufferRule : Shelf → ℕ → ℕ → Rule
+bufferRule h n count = record { refusal = OtherBuffer; kept = eqb n (count * unitSize h) }
+
+abbrev pub isWhole : Loss → Bool
+isWhole Nothing = true
+isWhole (Disk d) = false
+
+abbrev pub wholeRule : Shelf → Rule
+wholeRule h = record { refusal = SomeLost; kept = isWhole (h .loss) }
+
+abbrev pub presentRule : Shelf → ℕ → Rule
+presentRule h n = record { refusal = SomeLost; kept = present h n }
+
+abbrev pub lostRule : Shelf → Rule
+lostRule h = record { refusal = NoneLost; kept = not (isWhole (h .loss)) }
+
+-- blank and scrub, of an image of n bytes
+unfoldable pub wholeRules : Shelf → ℕ → List Rule
+wholeRules h n = shelfRule h ∷ imageRule h n ∷ wholeRule h ∷ []
+
+-- read, unit write and show address, with a unit buffer of m bytes
+unfoldable pub unitRules : Shelf → ℕ → ℕ → ℕ → List Rule
+unitRules h n a m = shelfRule h ∷ imageRule h n ∷ addressRule h a ∷ bufferRule h m 1 ∷ []
+
+-- stripe write, with a stripe buffer of m bytes
+unfoldable pub stripeRules : Shelf → ℕ → ℕ → ℕ → List Rule
+stripeRules h n s m = shelfRule h ∷ imageRule h n ∷ stripeRule h s ∷ bufferRule h m (h .k - 1) ∷ []
+
+unfoldable pub loseRules : Shelf → ℕ → List Rule
+loseRules h d = shelfRule h ∷ diskRule h d ∷ wholeRule h ∷ []
+
+unfoldable pub rebuildRules : Shelf → ℕ → List Rule
+rebuildRules h n = shelfRule h ∷ imageRule h n ∷ lostRule h ∷ []
+
+-- show place
+unfoldable pub placeRules : Shelf → ℕ → ℕ → ℕ → List Rule
+placeRules h n d o = shelfRule h ∷ imageRule h n ∷ placeRule h d o ∷ presentRule h (d * depth h + o) ∷ []
+
+-- what an accepted call gives, and what a refused one
+unfoldable pub by : {A : Type 0} → Verdict → A → A → A
+by Accepted x y = x
+by (Refused r) x y = y
+
+-- ---- blank
+
+pub record Blanked (h : Shelf) (image : List ℕ) (answer : Verdict) (after : List ℕ) : Type 0 where
+  pub answers : answer ≡ firstBroken (wholeRules h (length image))
+  pub leaves : after ≡ by (firstBroken (wholeRules h (length image))) (zeros (length image)) image
+
+-- ---- read
+
+-- unit i of stripe s, from its place or from the other units
+unfoldable pub fetched : Shelf → List ℕ → ℕ → ℕ → List ℕ
+fetched h image s i = cond (present h (unitIn h s i)) (cell h image s i) (others h image s i)
+
+unfoldable pub readCost : Shelf → ℕ → ℕ → ℕ
+readCost h s i = cond (present h (unitIn h s i)) 1 (h .k - 1)
+
+abbrev pub costs : Verdict → ℕ → ℕ → Cost
+costs verdict r w = record { verdict = verdict; read = by verdict r 0; written = by verdict w 0 }
+
+pub record ReadOut (h : Shelf) (image : List ℕ) (a : ℕ) (buffer : List ℕ) (answer : Cost) (after : List ℕ) : Type 0 where
+  pub answers : answer ≡ costs (firstBroken (unitRules h (length image) a (length buffer))) (readCost h (stripeOf (layoutIn h) a) (jOf (layoutIn h) a)) 0
+  pub leaves : after ≡ by (firstBroken (unitRules h (length image) a (length buffer))) (fetched h image (stripeOf (layoutIn h) a) (jOf (layoutIn h) a)) buffer
+
+-- ---- unit write
+
+-- the parity after x is written to data j: changed by old and new data, or, where the data disk is lost, of x and the others
+unfoldable pub newParity : Shelf → List ℕ → ℕ → ℕ → List ℕ → List ℕ
+newParity h image s j x =
+    cond (present h (unitIn h s j))
+    (xorU (cell h image s (h .k - 1)) (xorU (cell h image s j) x))
+    (xorSum (unitSize h) (put (cell h image s) j x) (h .k - 1))
+
+unfoldable pub unitWritten : Shelf → List ℕ → ℕ → ℕ → List ℕ → List ℕ
+unitWritten h image s j x =
+    patch h image
+    (λ n. eqb (stripeHere h n) s && (eqb (indexHere h n) j || eqb (indexHere h n) (h .k - 1)) && present h n)
+    (λ n. cond (eqb (indexHere h n) j) x (newParity h image s j x))
+
+-- units read and written: data and parity present, data lost, parity lost
+unfoldable pub writeReads : Shelf → ℕ → ℕ → ℕ
+writeReads h s j = cond (present h (unitIn h s j)) (cond (present h (unitIn h s (h .k - 1))) 2 0) (h .k - 2)
+
+unfoldable pub writeWrites : Shelf → ℕ → ℕ → ℕ
+writeWrites h s j = cond (present h (unitIn h s j) && present h (unitIn h s (h .k - 1))) 2 1
+
+pub record Wrote (h : Shelf) (image : List ℕ) (a : ℕ) (unit : List ℕ) (answer : Cost) (after : List ℕ) : Type 0 where
+  pub answers : answer ≡ (let s : ℕ = stripeOf (layoutIn h) a in let j : ℕ = jOf (layoutIn h) a in costs (firstBroken (unitRules h (length image) a (length unit))) (writeReads h s j) (writeWrites h s j))
+  pub leaves : after ≡ by (firstBroken (unitRules h (length image) a (length unit))) (unitWritten h image (stripeOf (layoutIn h) a) (jOf (layoutIn h) a) unit) image
+
+-- ---- stripe write
+
+-- the data of the buffer, and their parity
+unfoldable pub withParity : Shelf → List ℕ → ℕ → List ℕ
+withParity h buffer i =
+    cond (eqb i (h .k - 1)) (xorSum (unitSize h) (unitAt (unitSize h) buffer) (h .k - 1)) (unitAt (unitSize h) buffer i)
+
+unfoldable pub stripeWritten : Shelf → List ℕ → ℕ → List ℕ → List ℕ
+stripeWritten h image s buffer =
+    patch h image (λ n. eqb (stripeHere h n) s && present h n) (λ n. withParity h buffer (indexHere h n))
+
+unfoldable pub stripeWrites : Shelf → ℕ → ℕ
+stripeWrites h s = count (λ i. present h (unitIn h s i)) (h .k)
+
+pub record WroteStripe (h : Shelf) (image : List ℕ) (s : ℕ) (buffer : List ℕ) (answer : Cost) (after : List ℕ) : Type 0 where
+  pub answers : answer ≡ costs (firstBroken (stripeRules h (length image) s (length buffer))) 0 (stripeWrites h s)
+  pub leaves : after ≡ by (firstBroken (stripeRules h (length image) s (length buffer))) (stripeWritten h image s buffer) image
+
+-- ---- lose
+
+abbrev pub withLoss : Shelf → Loss → Shelf
+withLoss h loss =
+    record { v = h .v; k = h .k; b = h .b; T = h .T; u = h .u; r = h .r; lambda = h .lambda; table = h .table; loss = loss }
+
+unfoldable pub lost : Shelf → ℕ → Losing
+lost h d = record { verdict = firstBroken (loseRules h d); shelf = by (firstBroken (loseRules h d)) (withLoss h (Disk d)) h }
+
+-- ---- rebuild
+
+unfoldable pub rebuiltImage : Shelf → List ℕ → List ℕ
+rebuiltImage h image = patch h image (λ n. not (present h n)) (λ n. others h image (stripeHere h n) (indexHere h n))
+
+-- stripe s has a unit on disk d
+abbrev pub onDisk : Shelf → ℕ → ℕ → Bool
+onDisk h s d = holds (tuples (layoutIn h)) (tupleOf (layoutIn h) s) d
+
+-- the units read from disk e: the stripes that it shares with the lost disk
+unfoldable pub readFrom : Shelf → Loss → ℕ → ℕ
+readFrom h Nothing e = 0
+readFrom h (Disk d) e = cond (eqb e d) 0 (count (λ s. onDisk h s d && onDisk h s e) (stripes (layoutIn h)))
+
+abbrev pub rebuilding : Verdict → Shelf → Rebuilding
+rebuilding verdict h =
+    record {
+      verdict = verdict;
+      shelf = by verdict (withLoss h Nothing) h;
+      counts = by verdict (listFrom 0 64 (readFrom h (h .loss))) (zeros 64);
+    }
+
+pub record Rebuilt (h : Shelf) (image : List ℕ) (answer : Rebuilding) (after : List ℕ) : Type 0 where
+  pub answers : answer ≡ rebuilding (firstBroken (rebuildRules h (length image))) h
+  pub leaves : after ≡ by (firstBroken (rebuildRules h (length image))) (rebuiltImage h image) image
+
+-- ---- scrub
+
+unfoldable pub scrubbed : Shelf → List ℕ → Scrubbing
+scrubbed h image =
+    record { verdict = firstBroken (wholeRules h (length image)); wrong = by (firstBroken (wholeRules h (length image))) (count (wrong h image) (stripes (layoutIn h))) 0 }
+
+-- ---- show
+
+-- the unit at a place, or the empty part
+unfoldable pub placeShown : Shelf → List ℕ → ℕ → ℕ → List ℕ
+placeShown h image d o = by (firstBroken (placeRules h (length image) d o)) (unitAt (unitSize h) image (d * depth h + o)) []
+
+-- the unit of an address from the image where its disk is present, or the second buffer
+unfoldable pub addressShown : Shelf → List ℕ → ℕ → List ℕ → List ℕ
+addressShown h image a other =
+    let s : ℕ = stripeOf (layoutIn h) a in
+    let j : ℕ = jOf (layoutIn h) a in
+    by (firstBroken (unitRules h (length image) a (length other))) (cond (present h (unitIn h s j)) (cell h image s j) other) []

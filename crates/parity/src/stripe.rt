@@ -1,0 +1,107 @@
+// The exclusive-or of the units of a stripe, into a unit of the image or into a lent one.
+ghost use mathlib.Core.Path.{_≡_};
+ghost use Prim.Native.Nat.{_+_, _-_, _*_, _≤_, _<_};
+ghost use lib.ListN.{length};
+ghost use Rattle.parity.specs.Units.{zeros, unitAt, xorSum};
+ghost use Rattle.parity.specs.Stores.{putUnit};
+ghost use Rattle.parity.specs.Sums.{Placed, numberBy, sumWith};
+use crate::Shape;
+use crate::bytes;
+use crate::units;
+
+// Unit i of stripe s becomes the exclusive-or of the others.
+pub fn restore(
+    image: &mut [u8],
+    table: &[u8; 2048],
+    ranks: &[u16; 2048],
+    shape: Shape,
+    s: usize,
+    i: usize,
+)
+    requires { ⌜ Placed (now table) (now ranks) shape s (length (now image)) ⌝ }
+    requires { ⌜ i < shape .k ⌝ }
+    ensures { λ _. ⌜ now (image .exit) ≡ putUnit (shape .size) (now (image .entry)) (numberBy (now (table .entry)) (now (ranks .entry)) shape s i) (sumWith (now (table .entry)) (now (ranks .entry)) shape (now (image .entry)) s i (zeros (shape .size)) (shape .k)) ⌝ }
+{
+    let k = shape.k;
+    let size = shape.size;
+    let to = number(table, ranks, shape, s, i);
+    units::clear_unit(image, to, size);
+    for j in 0..k {
+        if j != i {
+            let from = number(table, ranks, shape, s, j);
+            units::mix_within(image, to, from, size);
+        }
+    }
+}
+
+// The lent unit becomes the exclusive-or of the units of stripe s but unit i; with k for i, of all of them.
+pub fn gather(
+    unit: &mut [u8],
+    image: &[u8],
+    table: &[u8; 2048],
+    ranks: &[u16; 2048],
+    shape: Shape,
+    s: usize,
+    i: usize,
+)
+    requires { ⌜ Placed (now table) (now ranks) shape s (length (now image)) ⌝ }
+    requires { ⌜ length (now unit) ≡ shape .size ⌝ }
+    ensures { λ _. ⌜ now (unit .exit) ≡ sumWith (now (table .entry)) (now (ranks .entry)) shape (now (image .entry)) s i (zeros (shape .size)) (shape .k) ⌝ }
+{
+    let k = shape.k;
+    bytes::clear(unit);
+    for j in 0..k {
+        if j != i {
+            let from = number(table, ranks, shape, s, j);
+            units::mix_out(unit, image, from);
+        }
+    }
+}
+
+// For a lost data unit j, the parity becomes the exclusive-or of the data with the lent unit for it.
+pub fn reparity(
+    image: &mut [u8],
+    table: &[u8; 2048],
+    ranks: &[u16; 2048],
+    shape: Shape,
+    s: usize,
+    j: usize,
+    unit: &[u8],
+)
+    requires { ⌜ Placed (now table) (now ranks) shape s (length (now image)) ⌝ }
+    requires { ⌜ length (now unit) ≡ shape .size ⌝ }
+    ensures { λ _. ⌜ now (image .exit) ≡ putUnit (shape .size) (now (image .entry)) (numberBy (now (table .entry)) (now (ranks .entry)) shape s (shape .k - 1)) (sumWith (now (table .entry)) (now (ranks .entry)) shape (now (image .entry)) s j (now (unit .entry)) (shape .k - 1)) ⌝ }
+{
+    let parity = shape.k - 1;
+    let size = shape.size;
+    let to = number(table, ranks, shape, s, parity);
+    units::clear_unit(image, to, size);
+    for i in 0..parity {
+        if i == j {
+            units::mix_in(image, to, unit);
+        } else {
+            let from = number(table, ranks, shape, s, i);
+            units::mix_within(image, to, from, size);
+        }
+    }
+}
+
+// Unit n of the image becomes the exclusive-or of the units of a lent buffer.
+pub fn seal(image: &mut [u8], n: usize, buffer: &[u8], size: usize, count: usize)
+    requires { ⌜ (n * size + size ≤ length (now image)) × (count * size ≡ length (now buffer)) ⌝ }
+    ensures { λ _. ⌜ now (image .exit) ≡ putUnit size (now (image .entry)) n (xorSum size (unitAt size (now (buffer .entry))) count) ⌝ }
+{
+    units::clear_unit(image, n, size);
+    for i in 0..count {
+        let at = i * size;
+        units::mix_in(image, n, &buffer[at..at + size]);
+    }
+}
+
+fn number(table: &[u8; 2048], ranks: &[u16; 2048], shape: Shape, s: usize, i: usize) -> usize
+    requires { ⌜ (2 ≤ shape .k) × (1 ≤ shape .b) × (shape .b * shape .k ≤ 2048) × (i < shape .k) ⌝ }
+    requires { ⌜ (shape .depth ≤ 134215680) × (s ≤ 134215680) × (shape .r ≤ 1024) ⌝ }
+    ensures { λ n. ⌜ n ≡ numberBy (now (table .entry)) (now (ranks .entry)) shape s i ⌝ }
+{
+    units::number(table, ranks, shape.k, shape.b, shape.r, shape.depth, s, i)
+}

@@ -1,0 +1,95 @@
+// Units of the image, by their numbers.
+ghost use mathlib.Core.Path.{_≡_};
+ghost use mathlib.Core.Logic.{_≢_};
+ghost use Prim.Native.Nat.{_+_, _*_, _≤_, _<_};
+ghost use lib.ListN.{length};
+ghost use Rattle.parity.specs.Units.{zeros, unitAt, xorU};
+ghost use Rattle.parity.specs.Stores.{putUnit, numberIn};
+use crate::bytes;
+
+pub fn clear_unit(image: &mut [u8], n: usize, size: usize)
+    requires { ⌜ n * size + size ≤ length (now image) ⌝ }
+    ensures { λ _. ⌜ now (image .exit) ≡ putUnit size (now (image .entry)) n (zeros size) ⌝ }
+{
+    let at = n * size;
+    bytes::clear(&mut image[at..at + size]);
+}
+
+pub fn store(image: &mut [u8], n: usize, unit: &[u8])
+    requires { ⌜ n * length (now unit) + length (now unit) ≤ length (now image) ⌝ }
+    ensures { λ _. ⌜ now (image .exit) ≡ putUnit (length (now (unit .entry))) (now (image .entry)) n (now (unit .entry)) ⌝ }
+{
+    let size = unit.len();
+    let at = n * size;
+    bytes::copy(&mut image[at..at + size], unit);
+}
+
+// Mixes a lent unit into unit n.
+pub fn mix_in(image: &mut [u8], n: usize, unit: &[u8])
+    requires { ⌜ n * length (now unit) + length (now unit) ≤ length (now image) ⌝ }
+    ensures { λ _. ⌜ now (image .exit) ≡ putUnit (length (now (unit .entry))) (now (image .entry)) n (xorU (unitAt (length (now (unit .entry))) (now (image .entry)) n) (now (unit .entry))) ⌝ }
+{
+    let size = unit.len();
+    let at = n * size;
+    bytes::mix(&mut image[at..at + size], unit);
+}
+
+// Mixes unit n into a lent unit.
+pub fn mix_out(unit: &mut [u8], image: &[u8], n: usize)
+    requires { ⌜ n * length (now unit) + length (now unit) ≤ length (now image) ⌝ }
+    ensures { λ _. ⌜ now (unit .exit) ≡ xorU (now (unit .entry)) (unitAt (length (now (unit .entry))) (now (image .entry)) n) ⌝ }
+{
+    let size = unit.len();
+    let at = n * size;
+    bytes::mix(unit, &image[at..at + size]);
+}
+
+// Mixes unit `from` into unit `to`: the loop that a rebuild spends its time in.
+pub fn mix_within(image: &mut [u8], to: usize, from: usize, size: usize)
+    requires { ⌜ (to * size + size ≤ length (now image)) × (from * size + size ≤ length (now image)) × (to ≢ from) ⌝ }
+    ensures { λ _. ⌜ now (image .exit) ≡ putUnit size (now (image .entry)) to (xorU (unitAt size (now (image .entry)) to) (unitAt size (now (image .entry)) from)) ⌝ }
+{
+    let a = to * size;
+    let b = from * size;
+    for i in 0..size {
+        image[a + i] = image[a + i] ^ image[b + i];
+    }
+}
+
+// The number of unit i of stripe s: data i below k - 1, the parity at k - 1.
+pub fn number(
+    table: &[u8; 2048],
+    ranks: &[u16; 2048],
+    k: usize,
+    b: usize,
+    r: usize,
+    depth: usize,
+    s: usize,
+    i: usize,
+) -> usize
+    requires { ⌜ (2 ≤ k) × (1 ≤ b) × (b * k ≤ 2048) × (i < k) ⌝ }
+    requires { ⌜ (depth ≤ 134215680) × (s ≤ 134215680) × (r ≤ 1024) ⌝ }
+    ensures { λ n. ⌜ n ≡ numberIn (now (table .entry)) (now (ranks .entry)) k b r depth s i ⌝ }
+{
+    let row = s / b;
+    let parity = k - 1 - row % k;
+    let position = if i < k - 1 {
+        if i < parity { i } else { i + 1 }
+    } else {
+        parity
+    };
+    let entry = s % b * k + position;
+    wide(table[entry]) * depth + (row * r + wider(ranks[entry]))
+}
+
+fn wide(entry: u8) -> usize
+    ensures { λ r. ⌜ (r ≡ entry) × (entry < 256) ⌝ }
+{
+    entry as usize
+}
+
+fn wider(rank: u16) -> usize
+    ensures { λ r. ⌜ (r ≡ rank) × (rank < 65536) ⌝ }
+{
+    rank as usize
+}

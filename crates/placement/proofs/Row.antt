@@ -1,0 +1,55 @@
+-- A stripe's row: the copies of all full tables, counted through; and by it the offset and the range of a place.
+-- Assumes nothing.
+use mathlib.Core.Path.{_≡_, ap, _∙_}
+use Prim.Native.Nat.{ℕ, _+_, _*_, _/_, _%_, _<_}
+use native.Mathlib.Nat.{mul-comm, div-div-eq-div-mul, div-add-mod', mod-lt, div-lt-iff-lt-mul}
+use native.Mathlib.Omega.{arith}
+use lib.Arith.{digits-lt, digits-div, digits-mod, mod-mul}
+use Rattle.design.specs.Tuples.{holds, before}
+use Rattle.design.proofs.Counting.{count-lt}
+use Rattle.placement.specs.Layout.{Layout, tuples, stripes, offsets, fullTableOf, wOf, copyOf, tupleOf, diskOf, offsetOf}
+use Rattle.placement.proofs.Held.{holds-disk}
+use Rattle.placement.proofs.Even.{Even}
+
+module _ (L : Layout) (E : Even L) where
+  k-pos : 0 < L .k
+  k-pos = omega (arith, E .k-least)
+
+  pub tuple-lt : (s : ℕ) → tupleOf L s < L .b
+  tuple-lt s = mod-lt (wOf L s) (E .b-pos)
+
+  within : (s : ℕ) → wOf L s ≡ s / L .b % L .k * L .b + s % L .b
+  within s = ap (λ (n : ℕ). s % n) (mul-comm (L .b) (L .k)) ∙ mod-mul s k-pos (E .b-pos)
+
+  pub tuple-row : (s : ℕ) → tupleOf L s ≡ s % L .b
+  tuple-row s = rw within (digits-mod (s / L .b % L .k) (mod-lt s (E .b-pos)))
+
+  pub copy-row : (s : ℕ) → copyOf L s ≡ s / L .b % L .k
+  copy-row s = rw within (digits-div (s / L .b % L .k) (mod-lt s (E .b-pos)))
+
+  pub copy-lt : (s : ℕ) → copyOf L s < L .k
+  copy-lt s = rw copy-row (mod-lt (s / L .b) k-pos)
+
+  pub row : (s : ℕ) → fullTableOf L s * L .k + copyOf L s ≡ s / L .b
+  row s = rw (copy-row s, ← div-div-eq-div-mul s (L .b) (L .k)) (div-add-mod' (s / L .b) (L .k))
+
+  pub offset-row : (s p : ℕ) → offsetOf L s p ≡ s / L .b * L .r + before (tuples L) (tupleOf L s) (diskOf L s p)
+  unfolding offsetOf
+  offset-row s p = omega (arith, ap (λ (n : ℕ). n * L .r) (row s))
+
+  pub rank-lt : (q p : ℕ) → q < L .b → p < L .k → before (tuples L) q (L .disk q p) < L .r
+  unfolding before
+  rank-lt q p hq hp =
+      let d : ℕ = L .disk q p in
+      omega (arith, count-lt (λ q′. holds (tuples L) q′ d) q (L .b) hq (holds-disk (tuples L) q p hp), E .often d (E .range q p hq hp))
+
+  pub before-lt : (s p : ℕ) → p < L .k → before (tuples L) (tupleOf L s) (diskOf L s p) < L .r
+  before-lt s p hp = rank-lt (tupleOf L s) p (tuple-lt s) hp
+
+  pub disk-lt : (s p : ℕ) → p < L .k → diskOf L s p < L .v
+  disk-lt s p hp = E .range (tupleOf L s) p (tuple-lt s) hp
+
+  pub offset-lt : (s p : ℕ) → s < stripes L → p < L .k → offsetOf L s p < offsets L
+  offset-lt s p hs hp =
+      let l : s < L .T * L .k * L .b = omega arith in
+      omega (arith, offset-row s p, digits-lt (div-lt-iff-lt-mul (E .b-pos) .1 l) (before-lt s p hp))

@@ -1,0 +1,82 @@
+-- `placement::fast::entries` meets its contract: the entries found are those passed. Assumes nothing.
+use mathlib.Core.Path.{_≡_, subst}
+use mathlib.Core.Logic.{⊎-elim}
+use Prim.Native.Nat.{ℕ, _-_, _≤_, _<_}
+use native.Mathlib.Omega.{arith}
+use lib.ListN.{getD}
+use borrow.Author.Tests.{eq-eqb, ne-eqb}
+use Rattle.design.specs.Count.{count, nth}
+use Rattle.placement.proofs.Flat.{isDisk}
+use Rattle.placement.proofs.Listing.{Listing, listing-none, listing-same, listing-more, listing-le}
+use Rattle.placement.proofs.fast.entries.Statement.{statement}
+use Rattle.placement.proofs.fast.entries.Tie as tie
+
+abbrev Inv-loop : tie.InvT-loop
+Inv-loop table n d entries₀ found₀ i₀ entries found i = (i ≤ n) × Listing table d i entries found
+
+abbrev μ-loop : tie.MeasureT-loop
+μ-loop table n d entries₀ found₀ i₀ entries found i = n - i
+
+loop-holds : tie.Need-loop-holds Inv-loop μ-loop
+loop-holds c = (omega arith, listing-none _ _)
+
+element-copy-out-if1 : tie.Need-element-copy-out-if1 Inv-loop μ-loop
+element-copy-out-if1 c = omega arith
+
+cast-entries : tie.Need-cast-entries Inv-loop μ-loop
+cast-entries c = omega arith
+
+found-lt : (c : tie.Then1 Inv-loop μ-loop) → c .before .before .before .loop .found < 2048
+found-lt c =
+    let l = c .before .before .before .loop in
+    omega (arith, c .before .before .before .before .pre, listing-le _ _ (l .i) (l .entries) (l .found) (l .inv .1))
+
+mul-entries : tie.Need-mul-entries Inv-loop μ-loop
+mul-entries c = omega (arith, found-lt c)
+
+array-write-entries : tie.Need-array-write-entries Inv-loop μ-loop
+array-write-entries c = found-lt c
+
+add-found : tie.Need-add-found Inv-loop μ-loop
+add-found c = omega (arith, found-lt c)
+
+add-i : tie.Need-add-i Inv-loop μ-loop
+add-i c = omega arith
+
+loop-less : tie.Need-loop-less Inv-loop μ-loop
+loop-less c = omega arith
+
+loop-again : tie.Need-loop-again Inv-loop μ-loop
+loop-again c =
+    let l = c .before .before .before .loop in
+    let more : l .i < 2048 = omega (arith, c .before .before .before .before .pre) in (
+      omega arith,
+      ⊎-elim
+          (λ w. rw (w .1, w .2) (listing-more _ _ (l .i) (l .entries) (l .found) (l .inv .1) more (eq-eqb _ _ (w .0 .taken))))
+          (λ w. rw (w .1, w .2) (listing-same _ _ (l .i) (l .entries) (l .found) (l .inv .1) (ne-eqb _ _ (w .0 .left))))
+          (c .if1 .came),
+    )
+
+returns : tie.Need-returns Inv-loop μ-loop
+returns c =
+    let l = c .before .loop in
+    let e : l .i ≡ c .before .before .args .n = omega arith in
+    let f = isDisk (c .before .before .args .table .now) (c .before .before .args .d) in
+    subst (λ (n : ℕ). (m : ℕ) → m < count f n → getD (l .entries) m 0 ≡ nth f n m) e (l .inv .1 .listed)
+
+pub entries-spec : {M : Type 1} → statement M
+entries-spec =
+    tie.close
+    (tie.spec
+    Inv-loop
+    μ-loop
+    loop-holds
+    element-copy-out-if1
+    cast-entries
+    mul-entries
+    array-write-entries
+    add-found
+    add-i
+    loop-less
+    loop-again
+    returns)

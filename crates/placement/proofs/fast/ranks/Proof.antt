@@ -1,0 +1,102 @@
+-- `placement::fast::ranks` meets its contract. The loop's invariant: the entries passed are counted and ranked. The measure is what is
+-- left of n. Assumes nothing.
+use mathlib.Core.Path.{_≡_, refl}
+use Prim.Native.Nat.{_-_, _≤_, _<_}
+use native.Mathlib.Omega.{arith}
+use lib.ListN.{length, getD, length-set}
+use Rattle.design.proofs.Counting.{count-le}
+use Rattle.placement.proofs.Flat.{isDisk}
+use Rattle.placement.proofs.Ranks.{Counted, Ranked, counted-none, counted-next, ranked-next}
+use Rattle.placement.proofs.fast.ranks.Statement.{statement}
+use Rattle.placement.proofs.fast.ranks.Tie as tie
+
+abbrev Inv-loop : tie.InvT-loop
+Inv-loop table n counts₀ ranks₀ i₀ counts ranks i =
+    (i ≤ n) × (length counts ≡ 64) × (length ranks ≡ 2048) × Counted table i counts × Ranked table i ranks
+
+abbrev μ-loop : tie.MeasureT-loop
+μ-loop table n counts₀ ranks₀ i₀ counts ranks i = n - i
+
+below : (c : tie.In-loop Inv-loop μ-loop) → getD (c .before .before .args .table .now) (c .before .loop .i) 0 < 64
+below c = c .before .before .pre .1 (c .before .loop .i) (c .loop-test .taken)
+
+loop-holds : tie.Need-loop-holds Inv-loop μ-loop
+loop-holds c = (omega arith, refl, refl, counted-none (c .args .table .now), λ x l. absurd (omega arith))
+
+element-copy-out-disk : tie.Need-element-copy-out-disk Inv-loop μ-loop
+element-copy-out-disk c = omega arith
+
+cast-disk : tie.Need-cast-disk Inv-loop μ-loop
+cast-disk c = omega (arith, below (c .before))
+
+mul-ranks : tie.Need-mul-ranks Inv-loop μ-loop
+mul-ranks c = omega (arith, below (c .before))
+
+array-read-ranks : tie.Need-array-read-ranks Inv-loop μ-loop
+array-read-ranks c = below (c .before)
+
+mul-ranks-2 : tie.Need-mul-ranks-2 Inv-loop μ-loop
+mul-ranks-2 c = omega arith
+
+array-write-ranks : tie.Need-array-write-ranks Inv-loop μ-loop
+array-write-ranks c = omega arith
+
+mul-counts : tie.Need-mul-counts Inv-loop μ-loop
+mul-counts c = omega (arith, below (c .before))
+
+array-read-counts : tie.Need-array-read-counts Inv-loop μ-loop
+array-read-counts c = below (c .before)
+
+add-counts : tie.Need-add-counts Inv-loop μ-loop
+add-counts c =
+    let a = c .before .before in
+    let table = a .before .args .table .now in
+    let d = getD table (a .loop .i) 0 in
+    omega (arith, a .loop .inv .3 d (below (c .before)), count-le (isDisk table d) (a .loop .i))
+
+array-write-counts : tie.Need-array-write-counts Inv-loop μ-loop
+array-write-counts c = below (c .before)
+
+add-i : tie.Need-add-i Inv-loop μ-loop
+add-i c = omega arith
+
+loop-less : tie.Need-loop-less Inv-loop μ-loop
+loop-less c = omega arith
+
+loop-again : tie.Need-loop-again Inv-loop μ-loop
+loop-again c =
+    let a = c .before .before in
+    let table = a .before .args .table .now in
+    let counts : length (a .loop .counts) ≡ 64 = a .loop .inv .1 in
+    let ranks : length (a .loop .ranks) ≡ 2048 = a .loop .inv .2 in (
+      omega arith,
+      simp length-set counts,
+      simp length-set ranks,
+      counted-next table (a .loop .i) (a .loop .counts) (omega (arith, below (c .before))) (a .loop .inv .3),
+      ranked-next table (a .loop .i) _ (a .loop .ranks) (omega arith) (a .loop .inv .3 _ (below (c .before))) (a .loop .inv .4),
+    )
+
+returns : tie.Need-returns Inv-loop μ-loop
+returns c = λ i l. c .before .loop .inv .4 i (omega arith)
+
+pub ranks-spec : {M : Type 1} → statement M
+ranks-spec =
+    tie.close
+    (tie.spec
+    Inv-loop
+    μ-loop
+    loop-holds
+    element-copy-out-disk
+    cast-disk
+    mul-ranks
+    array-read-ranks
+    mul-ranks-2
+    array-write-ranks
+    mul-counts
+    array-read-counts
+    add-counts
+    array-write-counts
+    add-i
+    loop-less
+    loop-again
+    returns)

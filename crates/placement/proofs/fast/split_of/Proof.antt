@@ -1,0 +1,58 @@
+-- `placement::fast::split_of` meets its contract: no divisor is zero, and the copy is below k. Assumes nothing.
+use mathlib.Core.Path.{refl}
+use Prim.Native.Nat.{_*_, _/_, _%_, _<_}
+use native.Mathlib.Nat.{mul-pos, mod-lt, div-lt-iff-lt-mul}
+use native.Mathlib.Omega.{arith}
+use borrow.Author.Needs.{needs}
+use Rattle.placement.specs.Layout.{splitOf}
+use Rattle.placement.proofs.fast.split_of.Statement.{statement}
+use Rattle.placement.proofs.fast.split_of.Tie as tie
+
+-- there are tuples, and a stripe of them is in one of k copies
+some : (c : tie.Start) → 0 < c .args .b * c .args .k
+some c = mul-pos (c .pre .1) (c .pre .0)
+
+copy-lt : (c : tie.Start) → c .args .stripe % (c .args .b * c .args .k) / c .args .b < c .args .k
+copy-lt c = div-lt-iff-lt-mul (c .pre .1) .1 (omega (arith, mod-lt (c .args .stripe) (some c)))
+
+mul-full-table : tie.Need-mul-full-table
+mul-full-table c = search needs
+
+div-full-table : tie.Need-div-full-table
+div-full-table c = some c
+
+mul-w : tie.Need-mul-w
+mul-w c = search needs
+
+rem-w : tie.Need-rem-w
+rem-w c = some c
+
+div-copy : tie.Need-div-copy
+div-copy c = search needs
+
+rem-tuple : tie.Need-rem-tuple
+rem-tuple c = search needs
+
+sub-parity : tie.Need-sub-parity
+sub-parity c = search needs
+
+sub-parity-2 : tie.Need-sub-parity-2
+sub-parity-2 c = omega (arith, copy-lt c)
+
+returns : tie.Need-returns
+unfolding splitOf
+returns c = refl
+
+pub split-of-spec : {M : Type 1} → statement M
+split-of-spec =
+    tie.close
+    (tie.spec
+    mul-full-table
+    div-full-table
+    mul-w
+    rem-w
+    div-copy
+    rem-tuple
+    sub-parity
+    sub-parity-2
+    returns)

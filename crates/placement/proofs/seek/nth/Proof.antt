@@ -1,0 +1,75 @@
+-- `placement::seek::nth` meets its contract. The loop's invariant: m is what is left and the count of the entries passed. The measure is
+-- what is left of n. Assumes nothing.
+use mathlib.Core.Path.{_≡_, sym, ap, _∙_}
+use mathlib.Core.Logic.{⊎-elim}
+use Prim.Native.Nat.{_+_, _-_, _≤_}
+use native.Mathlib.Omega.{arith}
+use borrow.Author.Tests.{eq-eqb, ne-eqb}
+use Rattle.design.specs.Count.{count, nth}
+use Rattle.design.proofs.Counting.{nth-count}
+use Rattle.design.proofs.Sums.{count-next}
+use Rattle.placement.proofs.Flat.{isDisk}
+use Rattle.placement.proofs.seek.nth.Statement.{statement}
+use Rattle.placement.proofs.seek.nth.Tie as tie
+
+abbrev Inv-loop : tie.InvT-loop
+Inv-loop table n d m left₀ i₀ left i = (i ≤ n) × (left + count (isDisk table d) i ≡ m)
+
+abbrev μ-loop : tie.MeasureT-loop
+μ-loop table n d m left₀ i₀ left i = n - i
+
+loop-holds : tie.Need-loop-holds Inv-loop μ-loop
+unfolding count
+loop-holds c = (omega arith, omega arith)
+
+element-copy-out-if1 : tie.Need-element-copy-out-if1 Inv-loop μ-loop
+element-copy-out-if1 c = omega arith
+
+returns : tie.Need-returns Inv-loop μ-loop
+returns c =
+    let in-loop = c .before .before .before in
+    let a = in-loop .before in
+    let args = a .before .args in
+    let f = isDisk (args .table .now) (args .d) in
+    let e : count f (a .loop .i) ≡ args .m = omega arith in
+    sym (nth-count f (args .n) (a .loop .i) (in-loop .loop-test .taken) (eq-eqb _ _ (c .before .if1 .taken))) ∙ ap (nth f (args .n)) e
+
+sub-left : tie.Need-sub-left Inv-loop μ-loop
+sub-left c = omega arith
+
+add-i : tie.Need-add-i Inv-loop μ-loop
+add-i c = omega arith
+
+loop-less : tie.Need-loop-less Inv-loop μ-loop
+loop-less c = omega arith
+
+loop-again : tie.Need-loop-again Inv-loop μ-loop
+loop-again c =
+    let a = c .before .before .before in
+    let args = a .before .args in
+    let next = count-next (isDisk (args .table .now) (args .d)) (a .loop .i) in (
+      omega arith,
+      ⊎-elim (λ w. omega (arith, rw (eq-eqb _ _ (w .0 .taken)) at next)) (λ w. omega (arith, rw (ne-eqb _ _ (w .0 .left)) at next)) (c .if1 .came),
+    )
+
+returns-2 : tie.Need-returns-2 Inv-loop μ-loop
+returns-2 c =
+    let a = c .before in
+    let args = a .before .args in
+    let e : a .loop .i ≡ args .n = omega arith in
+    absurd (omega (arith, ap (count (isDisk (args .table .now) (args .d))) e))
+
+pub nth-spec : {M : Type 1} → statement M
+nth-spec =
+    tie.close
+    (tie.spec
+    Inv-loop
+    μ-loop
+    loop-holds
+    element-copy-out-if1
+    returns
+    sub-left
+    add-i
+    loop-less
+    loop-again
+    returns-2)

@@ -1,0 +1,67 @@
+-- `placement::seek::times` meets its contract. The loop's invariant: `times` is the count of the entries passed. The measure is what is
+-- left of n. Assumes nothing.
+use mathlib.Core.Path.{_≡_, refl, ap, _∙_}
+use mathlib.Core.Logic.{⊎-elim}
+use Prim.Native.Nat.{_-_, _≤_}
+use native.Mathlib.Omega.{arith}
+use borrow.Author.Tests.{eq-eqb, ne-eqb}
+use Rattle.design.specs.Count.{count}
+use Rattle.design.proofs.Counting.{count-le}
+use Rattle.design.proofs.Sums.{count-next}
+use Rattle.placement.proofs.Flat.{isDisk}
+use Rattle.placement.proofs.seek.times.Statement.{statement}
+use Rattle.placement.proofs.seek.times.Tie as tie
+
+abbrev Inv-loop : tie.InvT-loop
+Inv-loop table n d times₀ i₀ times i = (i ≤ n) × (times ≡ count (isDisk table d) i)
+
+abbrev μ-loop : tie.MeasureT-loop
+μ-loop table n d times₀ i₀ times i = n - i
+
+loop-holds : tie.Need-loop-holds Inv-loop μ-loop
+unfolding count
+loop-holds c = (omega arith, refl)
+
+element-copy-out-if1 : tie.Need-element-copy-out-if1 Inv-loop μ-loop
+element-copy-out-if1 c = omega arith
+
+add-times : tie.Need-add-times Inv-loop μ-loop
+add-times c =
+    let a = c .before .before .before in
+    omega (arith, count-le (isDisk (a .before .args .table .now) (a .before .args .d)) (a .loop .i))
+
+add-i : tie.Need-add-i Inv-loop μ-loop
+add-i c = omega arith
+
+loop-less : tie.Need-loop-less Inv-loop μ-loop
+loop-less c = omega arith
+
+loop-again : tie.Need-loop-again Inv-loop μ-loop
+loop-again c =
+    let a = c .before .before .before in
+    let args = a .before .args in
+    let next = count-next (isDisk (args .table .now) (args .d)) (a .loop .i) in (
+      omega arith,
+      ⊎-elim (λ w. omega (arith, rw (eq-eqb _ _ (w .0 .taken)) at next)) (λ w. omega (arith, rw (ne-eqb _ _ (w .0 .left)) at next)) (c .if1 .came),
+    )
+
+returns : tie.Need-returns Inv-loop μ-loop
+returns c =
+    let a = c .before in
+    let args = a .before .args in
+    let e : a .loop .i ≡ args .n = omega arith in
+    a .loop .inv .1 ∙ ap (count (isDisk (args .table .now) (args .d))) e
+
+pub times-spec : {M : Type 1} → statement M
+times-spec =
+    tie.close
+    (tie.spec
+    Inv-loop
+    μ-loop
+    loop-holds
+    element-copy-out-if1
+    add-times
+    add-i
+    loop-less
+    loop-again
+    returns)
