@@ -2,6 +2,7 @@ pub mod Held
 pub mod Even
 pub mod Row
 pub mod Position
+pub mod FullTables
 pub mod Undo
 pub mod Stands
 pub mod Accepted
