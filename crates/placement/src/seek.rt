@@ -5,7 +5,7 @@ ghost use lib.Dec.{eqb};
 ghost use lib.ListN.{getD};
 ghost use Rattle.design.specs.Count.{count, nth};
 
-// How many of the first n entries are disk d. There is one way out of the loop, which the back end turns into vectors.
+// How many of the first n entries are disk d. There is one way out of the loop, so that the back end can turn it into vectors.
 pub fn times(table: &[u8; 2048], n: usize, d: u8) -> usize
     requires { ⌜ n ≤ 2048 ⌝ }
     ensures { λ r. ⌜ r ≡ count (λ i. eqb (getD (now (table .entry)) i 0) d) n ⌝ }
