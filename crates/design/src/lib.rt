@@ -6,6 +6,7 @@ ghost use Rattle.design.specs.Shelf.{isShelf, WroteBack};
 
 mod back;
 mod read;
+mod reader;
 mod rules;
 mod tally;
 

@@ -1,20 +1,18 @@
 // Opening a sheet: its rules one after another, each over the whole sheet (document 01, "Numbers a caller can get").
 ghost use mathlib.Core.Path.{_≡_};
-ghost use mathlib.Core.Bool.{true};
 ghost use Prim.Native.Nat.{_+_, _*_, _≤_};
 ghost use mathlib.Core.List.{[]};
 ghost use Rattle.design.specs.declared.Verdict.the-variants.{Refused};
 ghost use lib.ListN.{length};
-ghost use Rattle.fields.specs.Field.{field, isField};
 ghost use Rattle.design.specs.Sheet.{sheetLength, fillingZero, tableOf, openedBy, opened, HeaderRead};
 use crate::Loss;
 use crate::Opened;
 use crate::Refusal;
 use crate::Shelf;
 use crate::Verdict;
+use crate::reader;
 use crate::rules;
 use crate::tally;
-use fields::Found;
 
 // A refused opening gives its number and the empty shelf.
 fn refused(refusal: Refusal) -> Opened
@@ -24,17 +22,6 @@ fn refused(refusal: Refusal) -> Opened
     Opened {
         verdict: Verdict::Refused(refusal),
         shelf,
-    }
-}
-
-// The number in a field of the sheet.
-fn number(sheet: &[u8], at: usize, width: usize) -> usize
-    requires { ⌜ isField (now sheet) at width ≡ true ⌝ }
-    ensures { λ r. ⌜ r ≡ field (now (sheet .entry)) at width ⌝ }
-{
-    match fields::read(sheet, at, width) {
-        Found::Value(x) => x,
-        Found::NoField => 0,
     }
 }
 
@@ -56,7 +43,7 @@ fn filling_zero(sheet: &[u8], n: usize) -> bool
     if width == 0 {
         return true;
     }
-    number(sheet, at, width) == 0
+    reader::number(sheet, at, width) == 0
 }
 
 // The table: n disk numbers, and zero past them.
@@ -66,7 +53,7 @@ fn table_of(sheet: &[u8], n: usize) -> [u8; 2048]
 {
     let mut table = [0u8; Shelf::PLACES_MOST];
     for i in 0..n {
-        table[i] = number(sheet, 48 + 6 * i, 6) as u8;
+        table[i] = reader::number(sheet, 48 + 6 * i, 6) as u8;
     }
     table
 }
@@ -118,14 +105,15 @@ pub fn open(sheet: &[u8]) -> Opened
     if sheet.len() < 6 {
         return refused(Refusal::ShortSheet);
     }
-    if number(sheet, 0, 4) != 1 {
+    let header = reader::read_header(sheet);
+    if header.edition != 1 {
         return refused(Refusal::OtherEdition);
     }
-    let v = number(sheet, 4, 7);
-    let k = number(sheet, 11, 5);
-    let b = number(sheet, 16, 12);
-    let t = number(sheet, 28, 16);
-    let u = number(sheet, 44, 4);
+    let v = header.v;
+    let k = header.k;
+    let b = header.b;
+    let t = header.T;
+    let u = header.u;
     if !rules::within_limits(v, k, b, t, u) {
         return refused(Refusal::OutsideLimits);
     }

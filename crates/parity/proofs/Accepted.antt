@@ -18,8 +18,9 @@ use Rattle.design.proofs.Counting.{both, both-of}
 use Rattle.placement.specs.Layout.{layoutIn, stripes, addresses, stripeOf, jOf}
 use Rattle.placement.proofs.Even.{even-shelf}
 use Rattle.placement.proofs.Stands.{j-lt, stripe-below}
-use Rattle.parity.specs.Stripe.{unitSize, depth, imageSize, present}
+use Rattle.parity.specs.Stripe.{unitSize, depth, present}
 use Rattle.parity.specs.Calls.{imageRule, addressRule, stripeRule, diskRule, placeRule, bufferRule, wholeRule, lostRule, isWhole, wholeRules, unitRules, stripeRules, loseRules, rebuildRules, placeRules, presentRule}
+use Rattle.parity.specs.Shapes.{Held}
 use Rattle.parity.proofs.Cases.{cases}
 
 -- ---- rule after rule
@@ -31,22 +32,17 @@ rule-kept x rules = (parts, λ p. rw (p .0) (p .1))
     parts : firstBroken (x ∷ rules) ≡ Accepted → (x .kept ≡ true) × (firstBroken rules ≡ Accepted)
     parts e = cases (x .kept) (λ t. (t, rw t at e)) (λ t. let z : _≡_ {A = ℕ} 0 1 = cc (rw t at e) in absurd (omega arith))
 
--- the shelf is one, and the image has its size
-pub record ImageOf (h : Shelf) (image : List ℕ) : Type 0 where
-  pub shelf : isShelf h ≡ true
-  pub size : length image ≡ imageSize h
-
 pub image-kept : (h : Shelf) (image : List ℕ) (rules : List Rule)
-    → (firstBroken (shelfRule h ∷ imageRule h (length image) ∷ rules) ≡ Accepted) ↔ (ImageOf h image × (firstBroken rules ≡ Accepted))
+    → (firstBroken (shelfRule h ∷ imageRule h (length image) ∷ rules) ≡ Accepted) ↔ (Held h image × (firstBroken rules ≡ Accepted))
 image-kept h image rules = (parts, whole)
   where
-    parts : firstBroken (shelfRule h ∷ imageRule h (length image) ∷ rules) ≡ Accepted → ImageOf h image × (firstBroken rules ≡ Accepted)
+    parts : firstBroken (shelfRule h ∷ imageRule h (length image) ∷ rules) ≡ Accepted → Held h image × (firstBroken rules ≡ Accepted)
     parts e =
         let p = rule-kept (shelfRule h) (imageRule h (length image) ∷ rules) .0 e in
         let q = rule-kept (imageRule h (length image)) rules .0 (p .1) in
         (record { shelf = p .0; size = eqb-true _ _ (q .0) }, q .1)
 
-    whole : ImageOf h image × (firstBroken rules ≡ Accepted) → firstBroken (shelfRule h ∷ imageRule h (length image) ∷ rules) ≡ Accepted
+    whole : Held h image × (firstBroken rules ≡ Accepted) → firstBroken (shelfRule h ∷ imageRule h (length image) ∷ rules) ≡ Accepted
     whole p =
         rule-kept (shelfRule h) (imageRule h (length image) ∷ rules) .1
         (p .0 .shelf, rule-kept (imageRule h (length image)) rules .1 (eq-eqb _ _ (p .0 .size), p .1))
@@ -83,7 +79,7 @@ lost-exactly h = (λ e. find (h .loss) refl e, λ l. rw (l .loss))
 -- ---- blank and scrub
 
 pub record WholeCall (h : Shelf) (image : List ℕ) : Type 0 where
-  pub stored : ImageOf h image
+  pub stored : Held h image
   pub whole : h .loss ≡ Nothing
 
 module _ (h : Shelf) (image : List ℕ) where
@@ -100,7 +96,7 @@ module _ (h : Shelf) (image : List ℕ) where
 -- ---- rebuild
 
 pub record LostCall (h : Shelf) (image : List ℕ) : Type 0 where
-  pub stored : ImageOf h image
+  pub stored : Held h image
   pub lost : Lost h
 
 pub rebuild-accepted : (h : Shelf) (image : List ℕ) → (firstBroken (rebuildRules h (length image)) ≡ Accepted) ↔ LostCall h image
@@ -133,7 +129,7 @@ lose-accepted h d =
 -- ---- a read, a unit write, show address
 
 pub record UnitCall (h : Shelf) (image : List ℕ) (a : ℕ) (unit : List ℕ) : Type 0 where
-  pub stored : ImageOf h image
+  pub stored : Held h image
   pub address : a < addresses (layoutIn h)
   pub exact : length unit ≡ unitSize h
 
@@ -158,7 +154,7 @@ module _ {h : Shelf} {image : List ℕ} {a : ℕ} {unit : List ℕ} (w : UnitCal
 -- ---- a stripe write
 
 pub record StripeCall (h : Shelf) (image : List ℕ) (s : ℕ) (buffer : List ℕ) : Type 0 where
-  pub stored : ImageOf h image
+  pub stored : Held h image
   pub stripe : s < stripes (layoutIn h)
   pub exact : length buffer ≡ (h .k - 1) * unitSize h
 
@@ -174,7 +170,7 @@ stripe-write-accepted h image s buffer =
 -- ---- show place
 
 pub record PlaceCall (h : Shelf) (image : List ℕ) (d o : ℕ) : Type 0 where
-  pub stored : ImageOf h image
+  pub stored : Held h image
   pub disk : d < h .v
   pub offset : o < depth h
   pub here : present h (d * depth h + o) ≡ true

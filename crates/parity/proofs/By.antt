@@ -58,3 +58,12 @@ module _ {v : Verdict} (r w : ℕ) {answer : Cost} (is : answer ≡ costs v r w)
   pub cost-refused : (x : Refusal) → answer .verdict ≡ Refused x → answer ≡ record { verdict = Refused x; read = 0; written = 0 }
   unfolding by
   cost-refused x e = let a : v ≡ Refused x = sym cost-verdict ∙ e in is ∙ ap (λ (v : Verdict). costs v r w) a
+
+-- what the code answers by a verdict w that it found as v: refused, and accepted
+pub cost-none : {v w : Verdict} {x : Refusal} (r c : ℕ) → v ≡ w → v ≡ Refused x → _≡_ {A = Cost} (record { verdict = v; read = 0; written = 0 }) (costs w r c)
+unfolding by
+cost-none r c e f = rw (f, sym e ∙ f)
+
+pub cost-given : {v w : Verdict} {r c r′ c′ : ℕ} → v ≡ w → v ≡ Accepted → r′ ≡ r → c′ ≡ c → _≡_ {A = Cost} (record { verdict = v; read = r′; written = c′ }) (costs w r c)
+unfolding by
+cost-given e f p q = rw (f, sym e ∙ f, p, q)

@@ -1,4 +1,6 @@
 pub mod Cases
+pub mod Sized
+pub mod Ready
 pub mod Counting
 pub mod Xor
 pub mod Put
@@ -6,6 +8,7 @@ pub mod Image
 pub mod Patch
 pub mod Index
 pub mod Home
+pub mod Spots
 pub mod Ranks
 pub mod UnitCounts
 pub mod Meets
@@ -18,6 +21,7 @@ pub mod StripeStores
 pub mod Restores
 pub mod Rising
 pub mod Accepted
+pub mod Verdicts
 pub mod Wrong
 pub mod Counts
 pub mod Sets
@@ -42,3 +46,10 @@ pub mod Writing
 pub mod Summing
 pub mod StripeSums
 pub mod Places
+pub mod Addressed
+pub mod UnitCalls
+pub mod ReadCounts
+pub mod LostUnits
+pub mod Prepared
+pub mod StripeTurns
+pub mod Searching

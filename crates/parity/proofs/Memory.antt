@@ -17,12 +17,12 @@ use Rattle.placement.proofs.Stands.{j-lt, stripe-below}
 use Rattle.parity.specs.Units.{zeros, unitAt, xorU, xorSum, put}
 use Rattle.parity.specs.Stripe.{unitSize, units, unitIn, stripeHere, indexHere, present, cell, others}
 use Rattle.parity.specs.Calls.{fetched}
+use Rattle.parity.specs.Shapes.{Held}
 use Rattle.parity.proofs.Cases.{cases, put-same, put-other, put-each, put-ext}
 use Rattle.parity.proofs.Xor.{xorU-self, xorSum-ext, xorSum-length, recover}
 use Rattle.parity.proofs.Patch.{same-image}
 use Rattle.parity.proofs.Home.{whole-present, stripeHere-lt, indexHere-lt, beside-absent}
 use Rattle.parity.proofs.Cells.{cell-home}
-use Rattle.parity.proofs.Accepted.{ImageOf}
 
 -- the data of stripe s
 unfoldable pub dataOf : Shelf → (ℕ → List ℕ) → ℕ → ℕ → List ℕ
@@ -33,7 +33,7 @@ unfoldable pub asked : Shelf → (ℕ → List ℕ) → ℕ → ℕ → List ℕ
 asked h memory s = put (dataOf h memory s) (h .k - 1) (xorSum (unitSize h) (dataOf h memory s) (h .k - 1))
 
 pub record Keeps (h : Shelf) (image : List ℕ) (memory : ℕ → List ℕ) : Type 0 where
-  pub stored : ImageOf h image
+  pub stored : Held h image
   pub sized : (a : ℕ) → length (memory a) ≡ unitSize h
   pub same : (s i : ℕ) → s < stripes (layoutIn h) → i < h .k → present h (unitIn h s i) ≡ true → cell h image s i ≡ asked h memory s i
 

@@ -12,19 +12,16 @@ use Rattle.design.specs.Tuples.{holds, before}
 use Rattle.design.proofs.Counting.{count-le}
 use Rattle.design.proofs.Tests.{IsShelf, shelf-parts}
 use Rattle.placement.specs.Layout.{layoutIn, stripes}
-use Rattle.parity.specs.declared.Shape.{Shape}
 use Rattle.parity.specs.Units.{zeros, unitAt, xorSum, put}
 use Rattle.parity.specs.Stripe.{unitSize, depth, units, imageSize, unitIn, indexHere, cell, others}
 use Rattle.parity.specs.Stores.{Ranked}
+use Rattle.parity.specs.Shapes.{shapeIn}
 use Rattle.parity.specs.Sums.{Placed, numberBy, unitBy, sumWith}
 use Rattle.parity.proofs.Cases.{put-other, put-ext}
 use Rattle.parity.proofs.Xor.{xorSum-ext}
 use Rattle.parity.proofs.Image.{unit-fits}
 use Rattle.parity.proofs.Home.{unit-lt, index-home}
 use Rattle.parity.proofs.Ranks.{numbered}
-
-abbrev pub shapeOf : Shelf → Shape
-shapeOf h = record { k = h .k; b = h .b; r = h .r; depth = depth h; size = unitSize h }
 
 -- a disk stands in at most b tuples
 often-le : (h : Shelf) → IsShelf h → h .r ≤ h .b
@@ -38,10 +35,10 @@ depth-le : (h : Shelf) → IsShelf h → depth h ≤ 134215680
 depth-le h S = omega (arith, stripes-le h S, mul-le-mul-right (h .T * h .k) (often-le h S))
 
 module _ (h : Shelf) (ok : isShelf h ≡ true) (ranks : List ℕ) (R : Ranked (h .table) (h .b * h .k) ranks) (s : ℕ) (hs : s < stripes (layoutIn h)) where
-  pub number-unit : (i : ℕ) → i < h .k → numberBy (h .table) ranks (shapeOf h) s i ≡ unitIn h s i
+  pub number-unit : (i : ℕ) → i < h .k → numberBy (h .table) ranks (shapeIn h) s i ≡ unitIn h s i
   number-unit i hi = numbered h ok s i hi ranks R
 
-  pub shelf-placed : (image : List ℕ) → length image ≡ imageSize h → Placed (h .table) ranks (shapeOf h) s (length image)
+  pub shelf-placed : (image : List ℕ) → length image ≡ imageSize h → Placed (h .table) ranks (shapeIn h) s (length image)
   shelf-placed image len =
       let S : IsShelf h = shelf-parts h ok in
       record {
@@ -57,19 +54,19 @@ module _ (h : Shelf) (ok : isShelf h ≡ true) (ranks : List ℕ) (R : Ranked (h
       }
 
   module _ (image : List ℕ) where
-    unit-cell : (i : ℕ) → i < h .k → unitBy (h .table) ranks (shapeOf h) image s i ≡ cell h image s i
+    unit-cell : (i : ℕ) → i < h .k → unitBy (h .table) ranks (shapeIn h) image s i ≡ cell h image s i
     unfolding cell
     unit-cell i hi = ap (unitAt (unitSize h) image) (number-unit i hi)
 
-    pub sum-cells : (i : ℕ) (x : List ℕ) (n : ℕ) → n ≤ h .k → sumWith (h .table) ranks (shapeOf h) image s i x n ≡ xorSum (unitSize h) (put (cell h image s) i x) n
-    sum-cells i x n l = xorSum-ext (unitSize h) _ _ n (λ j u. put-ext (unitBy (h .table) ranks (shapeOf h) image s) (cell h image s) i x j (λ ne. unit-cell j (omega arith)))
+    pub sum-cells : (i : ℕ) (x : List ℕ) (n : ℕ) → n ≤ h .k → sumWith (h .table) ranks (shapeIn h) image s i x n ≡ xorSum (unitSize h) (put (cell h image s) i x) n
+    sum-cells i x n l = xorSum-ext (unitSize h) _ _ n (λ j u. put-ext (unitBy (h .table) ranks (shapeIn h) image s) (cell h image s) i x j (λ ne. unit-cell j (omega arith)))
 
-    pub sum-others : (i : ℕ) → sumWith (h .table) ranks (shapeOf h) image s i (zeros (unitSize h)) (h .k) ≡ others h image s i
+    pub sum-others : (i : ℕ) → sumWith (h .table) ranks (shapeIn h) image s i (zeros (unitSize h)) (h .k) ≡ others h image s i
     unfolding others
     sum-others i = sum-cells i (zeros (unitSize h)) (h .k) (omega arith)
 
     -- with k for i, of all units
-    pub sum-whole : (x : List ℕ) → sumWith (h .table) ranks (shapeOf h) image s (h .k) x (h .k) ≡ xorSum (unitSize h) (cell h image s) (h .k)
+    pub sum-whole : (x : List ℕ) → sumWith (h .table) ranks (shapeIn h) image s (h .k) x (h .k) ≡ xorSum (unitSize h) (cell h image s) (h .k)
     sum-whole x =
         sum-cells (h .k) x (h .k) (omega arith)
         ∙ xorSum-ext (unitSize h) _ (cell h image s) (h .k) (λ j l. put-other (cell h image s) (h .k) x j (omega arith))

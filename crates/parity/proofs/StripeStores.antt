@@ -1,21 +1,19 @@
 -- The stores of a stripe write, one after another and the lost unit left out, come to what it leaves. Assumes nothing.
 use mathlib.Core.Path.{_≡_, refl, sym, ap, _∙_}
-use mathlib.Core.Logic.{_≢_}
 use mathlib.Core.Bool.{Bool, true, false, _&&_, _||_, and-true, and-false}
 use mathlib.Core.List.{List}
 use Prim.Native.Nat.{ℕ, _+_, _-_, _*_, _≤_, _<_}
 use native.Mathlib.Omega.{arith}
 use lib.Dec.{ltb, eqb}
 use lib.ListN.{length}
-use borrow.Author.Tests.{lt-ltb, le-ltb, ltb-true, eqb-true, eqb-false}
+use borrow.Author.Tests.{lt-ltb, le-ltb}
 use Rattle.design.specs.declared.Shelf.{Shelf}
 use Rattle.design.specs.Shelf.{isShelf}
-use Rattle.design.proofs.Counting.{alike}
 use Rattle.placement.specs.Layout.{layoutIn, stripes}
 use Rattle.parity.specs.Stripe.{unitSize, units, imageSize, unitIn, stripeHere, indexHere, present}
 use Rattle.parity.specs.Stores.{putUnit}
 use Rattle.parity.specs.Calls.{withParity, stripeWritten}
-use Rattle.parity.proofs.Cases.{cases}
+use Rattle.parity.proofs.Cases.{below-next}
 use Rattle.parity.proofs.Patch.{Patched, patched-none, patched-test, patched-is}
 use Rattle.parity.proofs.Home.{index-home, indexHere-lt}
 use Rattle.parity.proofs.Written.{with-parity-length, stripe-written-sized}
@@ -28,13 +26,6 @@ earlier h s i n = eqb (stripeHere h n) s && ltb (indexHere h n) i && present h n
 -- the units of stripe s before i are written, the lost one left out
 abbrev pub StripeBegun : Shelf → List ℕ → ℕ → List ℕ → ℕ → List ℕ → Type 0
 StripeBegun h image s buffer i now = Patched h image (earlier h s i) (λ n. withParity h buffer (indexHere h n)) now
-
-below-next : (x i : ℕ) → (eqb x i || ltb x i) ≡ ltb x (i + 1)
-below-next x i = cases (eqb x i)
-    (λ e. rw e (sym (lt-ltb x (i + 1) (omega (arith, eqb-true x i e)))))
-    (λ e. rw e (alike (ltb x i) (ltb x (i + 1))
-    (λ t. lt-ltb x (i + 1) (omega (arith, ltb-true x i t)))
-    (λ t. let ne : x ≢ i = eqb-false x i e in lt-ltb x i (omega (arith, ltb-true x (i + 1) t)))))
 
 module _ (h : Shelf) (ok : isShelf h ≡ true) (image : List ℕ) (len : length image ≡ imageSize h) where
   module _ (s : ℕ) (buffer : List ℕ) (hb : length buffer ≡ (h .k - 1) * unitSize h) where

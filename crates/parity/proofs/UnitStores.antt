@@ -1,7 +1,7 @@
 -- The one or two stores of a unit write come to what it leaves. Assumes nothing.
 use mathlib.Core.Path.{_≡_, refl, ap, _∙_}
 use mathlib.Core.Logic.{_≢_}
-use mathlib.Core.Bool.{Bool, true, false, cond, _&&_, _||_, and-true, and-false, or-false, or-comm}
+use mathlib.Core.Bool.{Bool, true, false, cond, _&&_, _||_, and-true, and-false, or-false}
 use mathlib.Core.List.{List}
 use Prim.Native.Nat.{ℕ, _-_, _<_}
 use native.Mathlib.Omega.{arith}
@@ -54,8 +54,9 @@ module _ (h : Shelf) (ok : isShelf h ≡ true) (image : List ℕ) (len : length 
         (patched-test h image new on written after (λ n hn. same n ∙ by-use n hn) P)
 
     -- the stores, and the units that they have written
-    data-stored : Patched h image (λ n. isUnit h s j n || false) new (putUnit (unitSize h) image (unitIn h s j) x)
-    data-stored = patched-store h ok image new (λ n. false) image (patched-none h image new len) s j hs (omega arith) x hx at-data
+    data-stored : (on : ℕ → Bool) (now : List ℕ) → Patched h image on new now
+        → Patched h image (λ n. isUnit h s j n || on n) new (putUnit (unitSize h) now (unitIn h s j) x)
+    data-stored on now P = patched-store h ok image new on now P s j hs (omega arith) x hx at-data
 
     parity-stored : (on : ℕ → Bool) (now : List ℕ) → Patched h image on new now
         → Patched h image (λ n. isUnit h s (h .k - 1) n || on n) new (putUnit (unitSize h) now (unitIn h s (h .k - 1)) (newParity h image s j x))
@@ -63,12 +64,13 @@ module _ (h : Shelf) (ok : isShelf h ≡ true) (image : List ℕ) (len : length 
         patched-store h ok image new on now P s (h .k - 1) hs (omega arith) (newParity h image s j x) (new-parity-length h ok image len s j x hs hj hx) at-parity
 
     pub write-both : present h (unitIn h s j) ≡ true → present h (unitIn h s (h .k - 1)) ≡ true
-        → putUnit (unitSize h) (putUnit (unitSize h) image (unitIn h s j) x) (unitIn h s (h .k - 1)) (newParity h image s j x) ≡ unitWritten h image s j x
-    write-both p q = is-written _ _ (parity-stored _ _ data-stored) (λ n. rw (p, q) (simp (and-true, or-false, or-comm)))
+        → putUnit (unitSize h) (putUnit (unitSize h) image (unitIn h s (h .k - 1)) (newParity h image s j x)) (unitIn h s j) x ≡ unitWritten h image s j x
+    write-both p q =
+        is-written _ _ (data-stored _ _ (parity-stored _ _ (patched-none h image new len))) (λ n. rw (p, q) (simp (and-true, or-false)))
 
     pub write-data : present h (unitIn h s j) ≡ true → present h (unitIn h s (h .k - 1)) ≡ false
         → putUnit (unitSize h) image (unitIn h s j) x ≡ unitWritten h image s j x
-    write-data p q = is-written _ _ data-stored (λ n. rw (p, q) (simp (and-true, and-false)))
+    write-data p q = is-written _ _ (data-stored _ _ (patched-none h image new len)) (λ n. rw (p, q) (simp (and-true, and-false)))
 
     pub write-parity : present h (unitIn h s j) ≡ false → present h (unitIn h s (h .k - 1)) ≡ true
         → putUnit (unitSize h) image (unitIn h s (h .k - 1)) (newParity h image s j x) ≡ unitWritten h image s j x

@@ -15,4 +15,4 @@ shapeIn h = record { k = h .k; b = h .b; r = h .r; depth = depth h; size = unitS
 -- rules 10 and 11 are kept
 pub record Held (h : Shelf) (image : List ℕ) : Type 0 where
   pub shelf : isShelf h ≡ true
-  pub exact : length image ≡ imageSize h
+  pub size : length image ≡ imageSize h

@@ -98,7 +98,7 @@ pub fn seal(image: &mut [u8], n: usize, buffer: &[u8], size: usize, count: usize
     }
 }
 
-fn number(table: &[u8; 2048], ranks: &[u16; 2048], shape: Shape, s: usize, i: usize) -> usize
+pub fn number(table: &[u8; 2048], ranks: &[u16; 2048], shape: Shape, s: usize, i: usize) -> usize
     requires { ⌜ (2 ≤ shape .k) × (1 ≤ shape .b) × (shape .b * shape .k ≤ 2048) × (i < shape .k) ⌝ }
     requires { ⌜ (shape .depth ≤ 134215680) × (s ≤ 134215680) × (shape .r ≤ 1024) ⌝ }
     ensures { λ n. ⌜ n ≡ numberBy (now (table .entry)) (now (ranks .entry)) shape s i ⌝ }

@@ -24,6 +24,16 @@ pub fn store(image: &mut [u8], n: usize, unit: &[u8])
     bytes::copy(&mut image[at..at + size], unit);
 }
 
+// Unit n, into a lent one.
+pub fn load(unit: &mut [u8], image: &[u8], n: usize)
+    requires { ⌜ n * length (now unit) + length (now unit) ≤ length (now image) ⌝ }
+    ensures { λ _. ⌜ now (unit .exit) ≡ unitAt (length (now (unit .entry))) (now (image .entry)) n ⌝ }
+{
+    let size = unit.len();
+    let at = n * size;
+    bytes::copy(unit, &image[at..at + size]);
+}
+
 // Mixes a lent unit into unit n.
 pub fn mix_in(image: &mut [u8], n: usize, unit: &[u8])
     requires { ⌜ n * length (now unit) + length (now unit) ≤ length (now image) ⌝ }

@@ -35,15 +35,42 @@
 //                               the parity's up: prints `everywhere COUNT` where each gives the address and its stripe's parity,
 //                               else `everywhere differs at A` with the first that does not
 //
+// Runs of places on the current shelf (module runs):
+// run FIRST COUNT               runs over a list of COUNT records (at most 32), each 7:7 with the parity 7:7 before it: prints
+//                               `run`, 0 or the refusal's number, and the records after it, each as a bar, its place and the
+//                               parity's
+//
+// The current image (module images). The first two change it and print nothing:
+// image SIZE BYTE               becomes SIZE bytes (at most 16,384), all BYTE
+// put AT BYTES                  has these bytes from AT on
+// bytes AT N                    prints N bytes of it from AT on. More than 64 equal ones are printed as COUNTxBYTE, here and below
+//
+// The calls on the current shelf and image (modules images and stored). Each prints its name and 0 or the refusal's number:
+// read ADDRESS N                into N bytes (at most 16,384) that are AA before: then the units read and written, and the buffer
+// scrub                         then the wrong stripes
+// showplace DISK OFFSET         prints the part alone, `-` for the empty one
+// showaddress ADDRESS N         the same, with a second buffer of N bytes that are BB
+// blank                         then `kept` or `changed`, as the image is or is not what it was
+// write ADDRESS BYTES           then the units read and written, and `kept` or `changed`
+// writestripe STRIPE BYTES      likewise
+// fill ADDRESS N BYTE           a unit write of N bytes (at most 16,384), all BYTE
+// fillstripe STRIPE N BYTE      a stripe write of N such bytes
+// lose DISK                     the shelf handed back is the current one
+// rebuild                       then the 64 counts, and `kept` or `changed`; the shelf handed back is the current one
+//
 // Any other line is printed after `? `, and so is one whose number is too large for its command.
 //
 // A layer has a module with a function `run`, which says whether the line is one of its commands; `step` asks each in turn.
 // A new command is a pattern (see words::fits) and a function in its layer's module.
+mod answers;
 mod bits;
 mod held;
+mod images;
 mod places;
 mod print;
+mod runs;
 mod sheets;
+mod stored;
 mod values;
 mod words;
 
@@ -77,6 +104,18 @@ fn step(held: Held, line: &[u8]) -> Held {
     let place = places::run(held, line);
     if place.known {
         return place.held;
+    }
+    let ran = runs::run(held, line);
+    if ran.known {
+        return ran.held;
+    }
+    let looked = images::run(held, line);
+    if looked.known {
+        return looked.held;
+    }
+    let called = stored::run(held, line);
+    if called.known {
+        return called.held;
     }
     print::text(b"? ");
     print::text(line);

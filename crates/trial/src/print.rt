@@ -42,7 +42,7 @@ fn low(byte: u8) -> u8 {
     glyph(byte % 16)
 }
 
-fn pair(byte: u8) {
+pub fn pair(byte: u8) {
     text(&[high(byte), low(byte)]);
 }
 

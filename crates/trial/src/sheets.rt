@@ -9,7 +9,7 @@ use design::Verdict;
 use design::WriteBack;
 
 // Where bytes that were added end.
-enum End {
+pub enum End {
     At(usize),
     NoRoom,
 }
@@ -51,8 +51,8 @@ fn open_pending(held: Held) -> Shelf {
     open(first(&pending, held.length))
 }
 
-// Puts the bytes from `at` on.
-fn add(pending: &mut [u8], at: usize, bytes: &[u8]) -> End {
+// Puts the bytes from `at` on, also for the image.
+pub fn add(pending: &mut [u8], at: usize, bytes: &[u8]) -> End {
     if at > pending.len() {
         return End::NoRoom;
     }

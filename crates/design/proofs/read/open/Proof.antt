@@ -5,7 +5,7 @@ use mathlib.Core.Path.{_≡_, sym, ap₂, _∙_}
 use mathlib.Core.List.{List}
 use Prim.Native.Nat.{ℕ, _*_}
 use native.Mathlib.Omega.{arith}
-use Rattle.fields.proofs.Laws.{isField-iff}
+use Rattle.design.specs.declared.reader.Header.{Header}
 use Rattle.design.specs.Sheet.{sheetLength, Limits, vOf, kOf, bOf, TOf, uOf, withinLimits}
 use Rattle.design.proofs.Tests.{limits}
 use Rattle.design.proofs.Opening.{short, other-edition, outside-limits, other-length, limits-read}
@@ -18,31 +18,16 @@ refused-requires c κs = search needs
 returns : tie.Need-returns
 returns c = c .refused .ensures ∙ short _ (lt-leb _ _ (c .before .if1 .taken))
 
-number-requires : tie.Need-number-requires
-number-requires c κs = isField-iff _ _ _ .1 (omega arith)
+read-header-requires : tie.Need-read-header-requires
+read-header-requires c κs = search needs
 
 refused-requires-2 : tie.Need-refused-requires-2
 refused-requires-2 c κs = search needs
 
 returns-2 : tie.Need-returns-2
 returns-2 c =
-    let n = c .before .before in
-    c .refused2 .ensures ∙ other-edition _ (le-leb _ _ (n .before .if1 .left)) (ne-eqb _ _ (λ e. c .before .if2 .taken (n .number .ensures ∙ e)))
-
-number-requires-2 : tie.Need-number-requires-2
-number-requires-2 c κs = isField-iff _ _ _ .1 (omega arith)
-
-number-requires-3 : tie.Need-number-requires-3
-number-requires-3 c κs = isField-iff _ _ _ .1 (omega arith)
-
-number-requires-4 : tie.Need-number-requires-4
-number-requires-4 c κs = isField-iff _ _ _ .1 (omega arith)
-
-number-requires-5 : tie.Need-number-requires-5
-number-requires-5 c κs = isField-iff _ _ _ .1 (omega arith)
-
-number-requires-6 : tie.Need-number-requires-6
-number-requires-6 c κs = isField-iff _ _ _ .1 (omega arith)
+    let n = c .before .before .before in
+    c .refused2 .ensures ∙ other-edition _ (le-leb _ _ (n .before .if1 .left)) (ne-eqb _ _ (λ e. c .before .if2 .taken (n .read-header .ensures .0 ∙ e)))
 
 within-limits-requires : tie.Need-within-limits-requires
 within-limits-requires c κs = search needs
@@ -52,29 +37,29 @@ refused-requires-3 c κs = search needs
 
 -- ---- the five numbers are the header's
 
-abbrev edition : tie.After-within-limits → tie.Else2
-edition c = c .before .before .before .before .before .before
+abbrev read : tie.After-within-limits → tie.After-read-header
+read c = c .before .before .before
+
+abbrev header : tie.After-within-limits → Header
+header c = read c .read-header .result
 
 abbrev sheet : tie.After-within-limits → List ℕ
-sheet c = edition c .before .before .before .before .args .sheet .now
+sheet c = read c .before .before .before .args .sheet .now
 
 tested : (c : tie.After-within-limits) → let s = sheet c in c .within-limits .result ≡ withinLimits (vOf s) (kOf s) (bOf s) (TOf s) (uOf s)
 tested c =
-    let n = c .before in
-    c .within-limits .ensures
-    ∙ limits-read (sheet c) (n .before .before .before .before .number2 .ensures) (n .before .before .before .number3 .ensures) (n .before .before .number4 .ensures)
-    (n .before .number5 .ensures) (n .number6 .ensures)
+    let n = read c .read-header .ensures in
+    c .within-limits .ensures ∙ limits-read (sheet c) (n .1) (n .2) (n .3) (n .4) (n .5)
 
 returns-3 : tie.Need-returns-3
 returns-3 c =
     let w = c .before .before in
-    let e = edition w in
+    let n = read w in
     c .refused3 .ensures
-    ∙ outside-limits _ (le-leb _ _ (e .before .before .if1 .left)) (eq-eqb _ _ (sym (e .before .number .ensures) ∙ e .if2 .left))
+    ∙ outside-limits _ (le-leb _ _ (n .before .if1 .left)) (eq-eqb _ _ (sym (n .read-header .ensures .0) ∙ w .before .if2 .left))
     (sym (tested w) ∙ not-true _ (c .before .if3 .taken))
 
-within : (c : tie.Else3) → let n = c .before .before in
-    Limits (n .before .before .before .before .number2 .result) (n .before .before .before .number3 .result) (n .before .before .number4 .result) (n .before .number5 .result) (n .number6 .result)
+within : (c : tie.Else3) → let h = header (c .before) in Limits (h .v) (h .k) (h .b) (h .T) (h .u)
 within c = limits _ _ _ _ _ .0 (sym (c .before .within-limits .ensures) ∙ not-false _ (c .if3 .left))
 
 mul-sheet-length : tie.Need-mul-sheet-length
@@ -90,28 +75,28 @@ returns-4 : tie.Need-returns-4
 returns-4 c =
     let l = c .before .before in
     let w = l .before .before in
-    let e = edition w in
+    let n = read w in
     c .refused4 .ensures
-    ∙ other-length _ (le-leb _ _ (e .before .before .if1 .left)) (eq-eqb _ _ (sym (e .before .number .ensures) ∙ e .if2 .left))
+    ∙ other-length _ (le-leb _ _ (n .before .if1 .left)) (eq-eqb _ _ (sym (n .read-header .ensures .0) ∙ w .before .if2 .left))
     (sym (tested w) ∙ not-false _ (l .before .if3 .left))
-    (ne-eqb _ _ (λ q. c .before .if4 .taken (q ∙ sym (l .sheet-length .ensures ∙ ap₂ (λ (b k : ℕ). sheetLength (b * k)) (w .before .before .before .number4 .ensures) (w .before .before .before .before .number3 .ensures)))))
+    (ne-eqb _ _ (λ q. c .before .if4 .taken (q ∙ sym (l .sheet-length .ensures ∙ ap₂ (λ (b k : ℕ). sheetLength (b * k)) (n .read-header .ensures .3) (n .read-header .ensures .2)))))
 
 open-table-requires : tie.Need-open-table-requires
 open-table-requires c κs =
     let l = c .before in
     let w = l .before .before in
-    let n = w .before in
-    let e = edition w in
+    let n = read w in
+    let h = n .read-header .ensures in
     record {
-      long = le-leb _ _ (e .before .before .if1 .left);
-      edition = eq-eqb _ _ (sym (e .before .number .ensures) ∙ e .if2 .left);
+      long = le-leb _ _ (n .before .if1 .left);
+      edition = eq-eqb _ _ (sym (h .0) ∙ w .before .if2 .left);
       limits = sym (w .within-limits .ensures) ∙ not-false _ (l .before .if3 .left);
       exact = c .if4 .left ∙ l .sheet-length .ensures;
-      v-is = n .before .before .before .before .number2 .ensures;
-      k-is = n .before .before .before .number3 .ensures;
-      b-is = n .before .before .number4 .ensures;
-      T-is = n .before .number5 .ensures;
-      u-is = n .number6 .ensures;
+      v-is = h .1;
+      k-is = h .2;
+      b-is = h .3;
+      T-is = h .4;
+      u-is = h .5;
     }
 
 returns-5 : tie.Need-returns-5
@@ -123,14 +108,9 @@ open-spec =
     (tie.spec
     refused-requires
     returns
-    number-requires
+    read-header-requires
     refused-requires-2
     returns-2
-    number-requires-2
-    number-requires-3
-    number-requires-4
-    number-requires-5
-    number-requires-6
     within-limits-requires
     refused-requires-3
     returns-3

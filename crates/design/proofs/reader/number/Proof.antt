@@ -1,0 +1,29 @@
+-- `design::reader::number` meets its contract: where the field is there, it is found. Assumes nothing.
+use borrow.Author.Needs.{needs}
+use mathlib.Core.Path.{sym, ap, _∙_}
+use Rattle.fields.proofs.Laws.{isField-iff, found-value}
+use Rattle.design.proofs.Reading.{valueOf}
+use Rattle.design.proofs.reader.number.Statement.{statement}
+use Rattle.design.proofs.reader.number.Tie as tie
+
+read-requires : tie.Need-read-requires
+read-requires c κs = search needs
+
+enum-known-x : tie.Need-enum-known-x
+enum-known-x c = search needs
+
+enum-told : tie.Need-enum-told
+enum-told c = search needs
+
+returns : tie.Need-returns
+returns c =
+    let b = c .before .before .before in
+    ap valueOf (sym (c .before .x .given .1) ∙ b .read .ensures ∙ found-value _ _ _ (isField-iff _ _ _ .0 (b .before .before .pre)))
+
+returns-2 : tie.Need-returns-2
+returns-2 c =
+    let b = c .before .before in
+    ap valueOf (sym (c .enum-told .given .1) ∙ b .read .ensures ∙ found-value _ _ _ (isField-iff _ _ _ .0 (b .before .before .pre)))
+
+pub number-spec : {M : Type 1} → statement M
+number-spec = tie.close (tie.spec read-requires enum-known-x enum-told returns returns-2)

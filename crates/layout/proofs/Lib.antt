@@ -1,0 +1,11 @@
+pub mod Puts
+pub mod Decimals
+pub mod Opening
+pub mod Lengths
+pub mod Ranking
+pub mod Entries
+pub mod Calls
+pub mod Splitting
+pub mod Printing
+pub mod Whole
+pub mod Unique

@@ -1,0 +1,113 @@
+-- `layout::write::data` meets its contract. The loop's invariant: the first j places are written. Assumes nothing.
+use mathlib.Core.Path.{_≡_, sym, ap, _∙_}
+use mathlib.Core.Logic.{⊎-elim}
+use mathlib.Core.Bool.{cond}
+use mathlib.Core.List.{List, _++_}
+use Prim.Native.Nat.{ℕ, _+_, _-_, _≤_, _<_}
+use native.Mathlib.Omega.{arith}
+use lib.Dec.{ltb}
+use borrow.Author.Tests.{lt-ltb, le-ltb}
+use Rattle.layout.specs.Text.{joined}
+use Rattle.layout.specs.Steps.{Fits, Put, entryWord, dataWords}
+use Rattle.layout.proofs.Puts.{kept-length, put-nothing, put-then, fits-rest}
+use Rattle.layout.proofs.Lengths.{joined-next, joined-le}
+use Rattle.layout.proofs.write.data.Statement.{statement}
+use Rattle.layout.proofs.write.data.Tie as tie
+
+abbrev Inv-loop : tie.InvT-loop
+Inv-loop out₀ at table ranks base row parity n next₀ j₀ out next j = (j ≤ n) × Put out₀ at (dataWords table ranks base row parity j) next out
+
+abbrev μ-loop : tie.MeasureT-loop
+μ-loop out₀ at table ranks base row parity n next₀ j₀ out next j = n - j
+
+-- ---- the words, and that they fit
+
+abbrev words : tie.Start Inv-loop μ-loop → ℕ → List ℕ
+words s j = dataWords (s .args .table .now) (s .args .ranks .now) (s .args .base) (s .args .row) (s .args .parity) j
+
+abbrev word : tie.Start Inv-loop μ-loop → ℕ → List ℕ
+word s position = entryWord (s .args .table .now) (s .args .ranks .now) (s .args .base) (s .args .row + position)
+
+words-fit : (s : tie.Start Inv-loop μ-loop) (j : ℕ) → j ≤ s .args .n → Fits (s .args .out .now) (s .args .at) (words s j)
+unfolding dataWords
+words-fit s j h = record { room = omega (arith, s .pre .0 .room, joined-le j (s .args .n) (λ i. word s (cond (ltb i (s .args .parity)) i (i + 1))) h) }
+
+words-next : (s : tie.Start Inv-loop μ-loop) (j : ℕ) → words s (j + 1) ≡ words s j ++ word s (cond (ltb j (s .args .parity)) j (j + 1))
+unfolding dataWords
+words-next s j = joined-next j (λ i. word s (cond (ltb i (s .args .parity)) i (i + 1)))
+
+-- ---- one turn
+
+abbrev start : tie.Joined1 Inv-loop μ-loop → tie.Start Inv-loop μ-loop
+start c = c .before .before .before .before
+
+position-is : (c : tie.Joined1 Inv-loop μ-loop) → c .if1 .position ≡ cond (ltb (c .before .before .loop .j) (start c .args .parity)) (c .before .before .loop .j) (c .before .before .loop .j + 1)
+position-is c = ⊎-elim (λ w. rw (lt-ltb _ _ (w .0 .taken)) (w .1)) (λ w. rw (le-ltb _ _ (w .0 .left)) (w .1)) (c .if1 .came)
+
+-- the next words are those so far and this one
+next-is : (c : tie.Joined1 Inv-loop μ-loop) → words (start c) (c .before .before .loop .j + 1) ≡ words (start c) (c .before .before .loop .j) ++ word (start c) (c .if1 .position)
+next-is c = words-next (start c) (c .before .before .loop .j) ∙ ap (λ (i : ℕ). words (start c) (c .before .before .loop .j) ++ word (start c) i) (sym (position-is c))
+
+next-fits : (c : tie.Joined1 Inv-loop μ-loop) → Fits (start c .args .out .now) (start c .args .at) (words (start c) (c .before .before .loop .j) ++ word (start c) (c .if1 .position))
+next-fits c = rw (next-is c) at (words-fit (start c) (c .before .before .loop .j + 1) (omega (arith, c .before .loop-test .taken)))
+
+loop-holds : tie.Need-loop-holds Inv-loop μ-loop
+unfolding dataWords joined
+loop-holds c = (omega arith, put-nothing)
+
+add-position : tie.Need-add-position Inv-loop μ-loop
+add-position c = omega (arith, c .before .loop-test .taken)
+
+position-lt : (c : tie.Joined1 Inv-loop μ-loop) → start c .args .row + c .if1 .position < 2048
+position-lt c =
+    let s = start c in
+    let l : c .if1 .position ≤ c .before .before .loop .j + 1 = ⊎-elim (λ w. omega (arith, w .1)) (λ w. omega (arith, w .1)) (c .if1 .came) in
+    omega (arith, s .pre .1 .1, c .before .loop-test .taken)
+
+add-place : tie.Need-add-place Inv-loop μ-loop
+add-place c = omega (arith, position-lt (c .before .before))
+
+place-requires : tie.Need-place-requires Inv-loop μ-loop
+place-requires c κs =
+    let t = c .before .before in
+    (fits-rest (next-fits t) (t .before .before .loop .inv .1), (start t .pre .1 .0, position-lt t))
+
+add-j : tie.Need-add-j Inv-loop μ-loop
+add-j c = omega (arith, c .before .before .before .before .before .before .loop-test .taken)
+
+loop-less : tie.Need-loop-less Inv-loop μ-loop
+loop-less c = omega (arith, c .before .before .before .before .before .before .loop-test .taken)
+
+loop-again : tie.Need-loop-again Inv-loop μ-loop
+loop-again c =
+    let t = c .before .before .before .before .before in (
+      omega (arith, t .before .loop-test .taken),
+      rw (next-is t) (put-then (next-fits t) (t .before .before .loop .inv .1) (c .before .before .place .ensures)),
+    )
+
+same-length : tie.Need-same-length Inv-loop μ-loop
+same-length c =
+    let s = c .before .before .before in
+    kept-length (words-fit s (c .before .loop .j) (c .before .loop .inv .0)) (c .before .loop .inv .1)
+
+returns : tie.Need-returns Inv-loop μ-loop
+returns c =
+    let s = c .before .before .before in
+    let e : c .before .loop .j ≡ s .args .n = omega (arith, c .before .loop .inv .0, c .loop-test .left) in
+    rw e at (c .before .loop .inv .1)
+
+pub data-spec : {M : Type 1} → statement M
+data-spec =
+    tie.close
+    (tie.spec
+    Inv-loop
+    μ-loop
+    loop-holds
+    add-position
+    add-place
+    place-requires
+    add-j
+    loop-less
+    loop-again
+    same-length
+    returns)

@@ -1,0 +1,96 @@
+-- `layout::write::lines` meets its contract. The loop's invariant: the lines of the first i stripes are written. Assumes nothing.
+use mathlib.Core.Path.{_≡_}
+use Prim.Native.Nat.{_-_, _≤_}
+use native.Mathlib.Omega.{arith}
+use Rattle.design.proofs.Tests.{shelf-parts}
+use Rattle.placement.proofs.Bounds.{bounds}
+use Rattle.layout.proofs.Printing.{Printed, printed-none, reckoned, line-fits, printed-next, printed-length, printed-all}
+use Rattle.layout.proofs.write.lines.Statement.{statement}
+use Rattle.layout.proofs.write.lines.Tie as tie
+
+abbrev Inv-loop : tie.InvT-loop
+Inv-loop out₀ first n table k b r ranks at₀ i₀ out at i = (i ≤ n) × Printed table ranks k b r first out₀ i at out
+
+abbrev μ-loop : tie.MeasureT-loop
+μ-loop out₀ first n table k b r ranks at₀ i₀ out at i = n - i
+
+abbrev start : tie.After-ranks Inv-loop μ-loop → tie.Start Inv-loop μ-loop
+start c = c .before .before .before .before
+
+mul-ranks : tie.Need-mul-ranks Inv-loop μ-loop
+mul-ranks c =
+    let s = c .before .before .before in
+    omega (arith, shelf-parts (s .args .shelf) (s .pre .0) .limits .places)
+
+ranks-requires : tie.Need-ranks-requires Inv-loop μ-loop
+ranks-requires c κs =
+    let s = c .before .before .before in
+    let w = shelf-parts (s .args .shelf) (s .pre .0) in
+    (w .limits .places, λ i l. omega (arith, w .below i l, w .limits .v-most))
+
+loop-holds : tie.Need-loop-holds Inv-loop μ-loop
+loop-holds c = (omega arith, printed-none)
+
+add-line : tie.Need-add-line Inv-loop μ-loop
+add-line c =
+    let t = c .before .before .before in
+    let s = start (t .before .before) in
+    omega (arith, s .pre .1, t .loop-test .taken, bounds (s .args .shelf) (s .pre .0) .stripes)
+
+line-requires : tie.Need-line-requires Inv-loop μ-loop
+line-requires c κs =
+    let t = c .before .before .before in
+    let s = start (t .before .before) in
+    let h = s .args .shelf in (
+      line-fits h (s .pre .0) (s .args .first) (s .args .n) (s .pre .1) (t .before .before .ranks .result) (t .before .before .ranks .ensures) (s .pre .2) (t .before .loop .inv .1) (t .loop-test .taken),
+      reckoned h (s .pre .0) (s .args .first) (s .args .n) (s .pre .1) (t .before .loop .i) (t .loop-test .taken),
+    )
+
+add-i : tie.Need-add-i Inv-loop μ-loop
+add-i c = omega (arith, c .before .before .before .before .before .before .loop-test .taken)
+
+loop-less : tie.Need-loop-less Inv-loop μ-loop
+loop-less c = omega (arith, c .before .before .before .before .before .before .loop-test .taken)
+
+loop-again : tie.Need-loop-again Inv-loop μ-loop
+loop-again c =
+    let t = c .before .before .before .before .before .before in
+    let s = start (t .before .before) in
+    let h = s .args .shelf in (
+      omega (arith, t .loop-test .taken),
+      printed-next h (s .pre .0) (s .args .first) (s .args .n) (s .pre .1) (t .before .before .ranks .result) (t .before .before .ranks .ensures) (s .pre .2) (t .before .loop .inv .1)
+          (t .loop-test .taken)
+          (c .before .before .line .ensures),
+    )
+
+same-length : tie.Need-same-length Inv-loop μ-loop
+same-length c =
+    let s = start (c .before .before) in
+    printed-length (s .args .shelf) (s .pre .0) (s .args .first) (s .args .n) (s .pre .1) (c .before .before .ranks .result) (c .before .before .ranks .ensures) (s .pre .2)
+    (c .before .loop .inv .1)
+    (c .before .loop .inv .0)
+
+returns : tie.Need-returns Inv-loop μ-loop
+returns c =
+    let s = start (c .before .before) in
+    let e : c .before .loop .i ≡ s .args .n = omega (arith, c .before .loop .inv .0, c .loop-test .left) in
+    printed-all (s .args .shelf) (s .pre .0) (s .args .first) (s .args .n) (s .pre .1) (c .before .before .ranks .result) (c .before .before .ranks .ensures) (s .pre .2)
+    (c .before .loop .inv .1)
+    e
+
+pub lines-spec : {M : Type 1} → statement M
+lines-spec =
+    tie.close
+    (tie.spec
+    Inv-loop
+    μ-loop
+    mul-ranks
+    ranks-requires
+    loop-holds
+    add-line
+    line-requires
+    add-i
+    loop-less
+    loop-again
+    same-length
+    returns)

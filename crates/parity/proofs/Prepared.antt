@@ -1,0 +1,42 @@
+-- What a call that goes through stripes knows once it has ranked the table and taken the shape of the shelf. Assumes nothing.
+use mathlib.Core.Path.{_≡_, ap, _∙_}
+use mathlib.Core.List.{List}
+use Prim.Native.Nat.{ℕ, _*_, _≤_, _<_}
+use lib.ListN.{length}
+use Rattle.design.specs.declared.Shelf.{Shelf}
+use Rattle.placement.specs.Layout.{layoutIn, stripes}
+use Rattle.parity.specs.declared.Shape.{Shape}
+use Rattle.parity.specs.Stripe.{unitIn}
+use Rattle.parity.specs.Stores.{Ranked}
+use Rattle.parity.specs.Sums.{Placed, numberBy}
+use Rattle.parity.specs.Shapes.{Held, shapeIn}
+use Rattle.parity.proofs.Sized.{unit-size-most}
+use Rattle.parity.proofs.Home.{depth-pos}
+use Rattle.parity.proofs.Places.{number-unit, shelf-placed}
+
+pub record Prepared (h : Shelf) (image ranks : List ℕ) (shape : Shape) : Type 0 where
+  pub held : Held h image
+  pub ranked : Ranked (h .table) (h .b * h .k) ranks
+  pub shaped : shape ≡ shapeIn h
+
+module _ {h : Shelf} {image ranks : List ℕ} {shape : Shape} (p : Prepared h image ranks shape) where
+  pub shape-deep : 0 < shape .depth
+  shape-deep = rw (p .shaped) (depth-pos h (p .held .shelf))
+
+  pub shape-small : shape .size ≤ 4096
+  shape-small = rw (p .shaped) (unit-size-most h (p .held .shelf))
+
+  module _ {s : ℕ} (hs : s < stripes (layoutIn h)) where
+    pub units-placed : Placed (h .table) ranks shape s (length image)
+    units-placed = rw (p .shaped) (shelf-placed h (p .held .shelf) ranks (p .ranked) s hs image (p .held .size))
+
+    pub unit-numbered : {i n : ℕ} → i < h .k → n ≡ numberBy (h .table) ranks shape s i → n ≡ unitIn h s i
+    unit-numbered {i} hi e =
+        e ∙ ap (λ (x : Shape). numberBy (h .table) ranks x s i) (p .shaped) ∙ number-unit h (p .held .shelf) ranks (p .ranked) s hs i hi
+
+    -- what is asked of a call for the number of unit i
+    pub number-asks : {i : ℕ} → i < h .k
+        → ((2 ≤ shape .k) × (1 ≤ shape .b) × (shape .b * shape .k ≤ 2048) × (i < shape .k)) × ((shape .depth ≤ 134215680) × (s ≤ 134215680) × (shape .r ≤ 1024))
+    number-asks l =
+        let w = units-placed in
+        ((w .two, w .some, w .entries, rw (p .shaped) l), (w .deep, w .rows, w .often))

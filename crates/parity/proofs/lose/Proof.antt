@@ -1,0 +1,51 @@
+-- `parity::lose` meets its contract: the shelf handed back is as the verdict says. Assumes nothing.
+use mathlib.Core.Path.{sym, ap₂, _∙_}
+use native.Mathlib.Omega.{arith}
+use borrow.Author.Needs.{needs}
+use Rattle.design.specs.declared.Shelf.{Shelf}
+use Rattle.design.specs.declared.Verdict.{Verdict}
+use Rattle.design.proofs.Tests.{shelf-parts}
+use Rattle.parity.specs.declared.Losing.{Losing}
+use Rattle.parity.specs.Calls.{lost}
+use Rattle.parity.proofs.By.{by-accepted, by-refused}
+use Rattle.parity.proofs.Accepted.{lose-accepted}
+use Rattle.parity.proofs.lose.Statement.{statement}
+use Rattle.parity.proofs.lose.Tie as tie
+
+abbrev losing : Verdict → Shelf → Losing
+losing v h = record { verdict = v; shelf = h }
+
+of-lose-requires : tie.Need-of-lose-requires
+of-lose-requires c κs = search needs
+
+enum-told : tie.Need-enum-told
+enum-told c = search needs
+
+enum-told-2 : tie.Need-enum-told-2
+enum-told-2 c = search needs
+
+returns : tie.Need-returns
+unfolding lost
+returns c =
+    let judged = c .before .before .of-lose .ensures in
+    ap₂ losing judged (sym (by-refused _ _ (sym judged ∙ c .enum-told2 .given .1)))
+
+-- an accepted disk is below v, so its number fits a byte
+cast-t5 : tie.Need-cast-t5
+cast-t5 c =
+    let w = lose-accepted _ _ .0 (sym (c .before .before .of-lose .ensures) ∙ c .enum-told .given .1) in
+    omega (arith, w .disk, shelf-parts _ (w .shelf) .limits .v-most)
+
+with-loss-requires : tie.Need-with-loss-requires
+with-loss-requires c κs = search needs
+
+returns-2 : tie.Need-returns-2
+unfolding lost
+returns-2 c =
+    let judged = c .before .before .before .of-lose .ensures in
+    ap₂ losing judged (c .with-loss .ensures ∙ sym (by-accepted _ _ (sym judged ∙ c .before .enum-told .given .1)))
+
+pub lose-spec : {M : Type 1} → statement M
+lose-spec =
+    tie.close
+    (tie.spec of-lose-requires enum-told enum-told-2 returns cast-t5 with-loss-requires returns-2)

@@ -1,0 +1,77 @@
+-- `parity::rebuild` meets its contract: the answer and the image are as the verdict says. Assumes nothing.
+use mathlib.Core.Path.{_≡_, sym, _∙_}
+use mathlib.Core.List.{List}
+use Prim.Native.Nat.{ℕ}
+use borrow.Author.Needs.{needs}
+use Rattle.design.specs.declared.Shelf.{Shelf}
+use Rattle.design.specs.declared.Verdict.{Verdict}
+use Rattle.parity.specs.declared.Rebuilding.{Rebuilding}
+use Rattle.parity.proofs.By.{by-accepted, by-refused}
+use Rattle.parity.proofs.Accepted.{LostCall, rebuild-accepted}
+use Rattle.parity.proofs.rebuild.Statement.{statement}
+use Rattle.parity.proofs.rebuild.Tie as tie
+
+abbrev answer : Verdict → Shelf → List ℕ → Rebuilding
+answer v h counts = record { verdict = v; shelf = h; counts = counts }
+
+same-answer : {v v′ : Verdict} {h h′ : Shelf} {counts counts′ : List ℕ} → v ≡ v′ → h ≡ h′ → counts ≡ counts′ → answer v h counts ≡ answer v′ h′ counts′
+same-answer p q r = rw (p, q, r)
+
+-- what an accepted call has
+accepted : (c : tie.After-enum-told) → LostCall (c .before .before .before .before .args .shelf) (c .before .before .before .before .args .image .now)
+accepted c = rebuild-accepted _ _ .0 (sym (c .before .before .of-rebuild .ensures) ∙ c .enum-told .given .1)
+
+of-rebuild-requires : tie.Need-of-rebuild-requires
+of-rebuild-requires c κs = search needs
+
+enum-told : tie.Need-enum-told
+enum-told c = search needs
+
+enum-told-2 : tie.Need-enum-told-2
+enum-told-2 c = search needs
+
+returns : tie.Need-returns
+returns c =
+    let judged = c .before .before .of-rebuild .ensures in
+    let refused = sym judged ∙ c .enum-told2 .given .1 in
+    record {
+      answers = same-answer judged (sym (by-refused _ _ refused)) (sym (by-refused _ _ refused));
+      leaves = sym (by-refused _ _ refused);
+    }
+
+restore-disk-requires : tie.Need-restore-disk-requires
+restore-disk-requires c κs = accepted (c .before) .stored
+
+counts-requires : tie.Need-counts-requires
+counts-requires c κs = accepted (c .before .before .before .before) .stored .shelf
+
+with-loss-requires : tie.Need-with-loss-requires
+with-loss-requires c κs = search needs
+
+same-length : tie.Need-same-length
+same-length c = search needs
+
+returns-2 : tie.Need-returns-2
+returns-2 c =
+    let stored = c .before .before .before .before in
+    let told = stored .before .before in
+    let judged = told .before .before .of-rebuild .ensures in
+    let passed = sym judged ∙ told .enum-told .given .1 in
+    record {
+      answers = same-answer judged (c .with-loss .ensures ∙ sym (by-accepted _ _ passed)) (c .before .counts .ensures ∙ sym (by-accepted _ _ passed));
+      leaves = stored .restore-disk .ensures ∙ sym (by-accepted _ _ passed);
+    }
+
+pub rebuild-spec : {M : Type 1} → statement M
+rebuild-spec =
+    tie.close
+    (tie.spec
+    of-rebuild-requires
+    enum-told
+    enum-told-2
+    returns
+    restore-disk-requires
+    counts-requires
+    with-loss-requires
+    same-length
+    returns-2)

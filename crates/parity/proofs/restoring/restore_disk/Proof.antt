@@ -1,0 +1,211 @@
+-- `parity::restoring::restore_disk` meets its contract. The loop's invariant: the units at the offsets passed are restored. The measure is
+-- the offsets left. Assumes nothing.
+use mathlib.Core.Path.{_≡_, sym, ap, _∙_}
+use Prim.Native.Nat.{_-_, _/_, _%_, _^_, _≤_, _<_}
+use native.Mathlib.Nat.{mod-lt}
+use native.Mathlib.Omega.{arith}
+use borrow.Author.Needs.{needs}
+use Rattle.design.specs.declared.Shelf.{Shelf}
+use Rattle.placement.specs.Layout.{layoutIn}
+use Rattle.placement.proofs.Even.{Even, even-shelf}
+use Rattle.placement.proofs.Bounds.{bounds}
+use Rattle.parity.specs.declared.Shape.{Shape}
+use Rattle.parity.specs.Stripe.{depth}
+use Rattle.parity.proofs.Ready.{entries-fit, entries-below}
+use Rattle.parity.proofs.Restores.{Restored}
+use Rattle.parity.proofs.LostUnits.{upTo, stripeFor, Prepared, rank-fits, stripe-lt, index-lt, offset-placed, restored-next, restored-start, restored-disk, none-restored}
+use Rattle.parity.proofs.restoring.restore_disk.Statement.{statement}
+use Rattle.parity.proofs.restoring.restore_disk.Tie as tie
+
+abbrev Inv-loop : tie.InvT-loop
+Inv-loop shelf image₀ lost k r table ranks entries shape o₀ depth image o = (o ≤ depth) × Restored shelf image₀ (upTo shelf o) image
+
+abbrev μ-loop : tie.MeasureT-loop
+μ-loop shelf image₀ lost k r table ranks entries shape o₀ depth image o = depth - o
+
+-- ---- before the loop
+
+abbrev start : tie.After-shape-of Inv-loop μ-loop → tie.Start Inv-loop μ-loop
+start c = c .before .before .before .before .before .before .before .before .before .before .before .before
+
+abbrev told : tie.After-shape-of Inv-loop μ-loop → tie.After-loss Inv-loop μ-loop
+told c = c .before .before .before .before .before .before .before .before .before
+
+prepared : (c : tie.After-shape-of Inv-loop μ-loop) → Prepared (start c .args .shelf) (told c .loss .given .0 .0) (c .before .before .before .before .ranks .result) (c .before .entries .result) (c .shape-of .result)
+prepared c = record {
+  ok = start c .pre .shelf;
+  gone = told c .loss .given .1;
+  ranked = c .before .before .before .before .ranks .ensures;
+  listed = c .before .entries .ensures;
+  shape-is = c .shape-of .ensures;
+}
+
+enum-known-loss : tie.Need-enum-known-loss Inv-loop μ-loop
+enum-known-loss c = search needs
+
+enum-told : tie.Need-enum-told Inv-loop μ-loop
+enum-told c = search needs
+
+returns : tie.Need-returns Inv-loop μ-loop
+returns c = let s = c .before .before .before in none-restored (s .args .shelf) (s .pre .shelf) _ (s .pre .size) (c .enum-told .given .1)
+
+mul-ranks : tie.Need-mul-ranks Inv-loop μ-loop
+mul-ranks c =
+    let s = c .before .before .before .before .before .before .before in
+    omega (arith, entries-fit (s .args .shelf) (s .pre .shelf))
+
+ranks-requires : tie.Need-ranks-requires Inv-loop μ-loop
+ranks-requires c κs =
+    let s = c .before .before .before .before .before .before .before in
+    (entries-fit (s .args .shelf) (s .pre .shelf), entries-below (s .args .shelf) (s .pre .shelf))
+
+mul-entries : tie.Need-mul-entries Inv-loop μ-loop
+mul-entries c =
+    let s = c .before .before .before .before .before .before .before .before .before .before in
+    omega (arith, entries-fit (s .args .shelf) (s .pre .shelf))
+
+entries-requires : tie.Need-entries-requires Inv-loop μ-loop
+entries-requires c κs =
+    let s = c .before .before .before .before .before .before .before .before .before .before in
+    entries-fit (s .args .shelf) (s .pre .shelf)
+
+shape-of-requires : tie.Need-shape-of-requires Inv-loop μ-loop
+shape-of-requires c κs = c .before .before .before .before .before .before .before .before .before .before .before .pre .shelf
+
+loop-holds : tie.Need-loop-holds Inv-loop μ-loop
+loop-holds c = (omega arith, restored-start (start c .args .shelf) (start c .pre .shelf) _ (start c .pre .size))
+
+-- ---- at offset o
+
+abbrev shelf : tie.In-loop Inv-loop μ-loop → Shelf
+shelf c = start (c .before .before) .args .shelf
+
+even : (c : tie.In-loop Inv-loop μ-loop) → Even (layoutIn (shelf c))
+even c = even-shelf (shelf c) (start (c .before .before) .pre .shelf)
+
+-- where its entry stands in the list
+listed-lt : (c : tie.In-loop Inv-loop μ-loop) → c .before .loop .o % shelf c .r < 2048
+listed-lt c = rank-fits (shelf c) (prepared (c .before .before)) (c .before .loop .o)
+
+k-pos : (c : tie.In-loop Inv-loop μ-loop) → 0 < shelf c .k
+k-pos c = omega (arith, even c .k-least)
+
+row-lt : (c : tie.In-loop Inv-loop μ-loop) → c .before .loop .o / shelf c .r % shelf c .k < shelf c .k
+row-lt c = mod-lt (c .before .loop .o / shelf c .r) (k-pos c)
+
+rem-entry : tie.Need-rem-entry Inv-loop μ-loop
+rem-entry c = even c .r-pos
+
+mul-entry : tie.Need-mul-entry Inv-loop μ-loop
+mul-entry c = omega (arith, listed-lt c)
+
+array-read-entry : tie.Need-array-read-entry Inv-loop μ-loop
+array-read-entry c = listed-lt c
+
+cast-entry : tie.Need-cast-entry Inv-loop μ-loop
+cast-entry c = search needs
+
+div-row : tie.Need-div-row Inv-loop μ-loop
+div-row c = even c .r-pos
+
+below : (c : tie.In-loop Inv-loop μ-loop) → stripeFor (shelf c) (c .before .before .before .entries .result) (c .before .loop .o) < 2 ^ 27
+below c =
+    let P = prepared (c .before .before) in
+    omega (arith, stripe-lt (shelf c) P (c .before .loop .o) (c .loop-test .taken), bounds (shelf c) (P .ok) .stripes)
+
+mul-s : tie.Need-mul-s Inv-loop μ-loop
+mul-s c = omega (arith, below (c .before))
+
+div-s : tie.Need-div-s Inv-loop μ-loop
+div-s c = omega (arith, even (c .before) .k-least)
+
+add-s : tie.Need-add-s Inv-loop μ-loop
+add-s c = omega (arith, below (c .before))
+
+sub-index-of : tie.Need-sub-index-of Inv-loop μ-loop
+sub-index-of c = omega (arith, even (c .before) .k-least)
+
+rem-index-of : tie.Need-rem-index-of Inv-loop μ-loop
+rem-index-of c = omega (arith, even (c .before) .k-least)
+
+sub-index-of-2 : tie.Need-sub-index-of-2 Inv-loop μ-loop
+sub-index-of-2 c = omega (arith, row-lt (c .before))
+
+rem-index-of-2 : tie.Need-rem-index-of-2 Inv-loop μ-loop
+rem-index-of-2 c = omega (arith, even (c .before) .k-least)
+
+index-of-requires : tie.Need-index-of-requires Inv-loop μ-loop
+index-of-requires c κs = (mod-lt _ (k-pos (c .before)), omega (arith, even (c .before) .k-least))
+
+restore-requires : tie.Need-restore-requires Inv-loop μ-loop
+restore-requires c κs =
+    let i = c .before .before .before in
+    let turn = i .before .before in
+    let P = prepared (turn .before .before) in
+    let o = turn .before .loop .o in (
+      offset-placed (shelf turn) P o (turn .loop-test .taken) (turn .before .loop .image) (turn .before .loop .inv .1 .len),
+      index-lt (shelf turn) P o (turn .loop-test .taken) (i .index-of .ensures),
+    )
+
+add-o : tie.Need-add-o Inv-loop μ-loop
+add-o c = omega arith
+
+loop-less : tie.Need-loop-less Inv-loop μ-loop
+loop-less c = omega arith
+
+loop-again : tie.Need-loop-again Inv-loop μ-loop
+loop-again c =
+    let i = c .before .before .before .before .before .before in
+    let turn = i .before .before in
+    let s = start (turn .before .before) in
+    let P = prepared (turn .before .before) in
+    let o = turn .before .loop .o in (
+      omega arith,
+      restored-next (shelf turn) P o (turn .loop-test .taken) (s .args .image .now) (turn .before .loop .image) _ (s .pre .size) (turn .before .loop .inv .1) (i .index-of .ensures) (c .before .before .restore .ensures),
+    )
+
+-- ---- after it
+
+same-length : tie.Need-same-length Inv-loop μ-loop
+same-length c = c .before .loop .inv .1 .len ∙ sym (start (c .before .before) .pre .size)
+
+returns-2 : tie.Need-returns-2 Inv-loop μ-loop
+returns-2 c =
+    let s = start (c .before .before) in
+    let deep : c .before .before .shape-of .result .depth ≡ depth (s .args .shelf) = ap (λ (x : Shape). x .depth) (c .before .before .shape-of .ensures) in
+    restored-disk (s .args .shelf) (s .pre .shelf) (s .args .image .now) (s .pre .size) (c .before .loop .inv .1) (omega arith)
+
+pub restore-disk-spec : {M : Type 1} → statement M
+restore-disk-spec =
+    tie.close
+    (tie.spec
+    Inv-loop
+    μ-loop
+    enum-known-loss
+    enum-told
+    returns
+    mul-ranks
+    ranks-requires
+    mul-entries
+    entries-requires
+    shape-of-requires
+    loop-holds
+    rem-entry
+    mul-entry
+    array-read-entry
+    cast-entry
+    div-row
+    mul-s
+    div-s
+    add-s
+    sub-index-of
+    rem-index-of
+    sub-index-of-2
+    rem-index-of-2
+    index-of-requires
+    restore-requires
+    add-o
+    loop-less
+    loop-again
+    same-length
+    returns-2)

@@ -1,0 +1,31 @@
+// The search for wrong stripes.
+ghost use mathlib.Core.Path.{_≡_};
+ghost use Rattle.design.specs.Count.{count};
+ghost use Rattle.placement.specs.Layout.{layoutIn, stripes};
+ghost use Rattle.parity.specs.Stripe.{wrong};
+ghost use Rattle.parity.specs.Shapes.{Held};
+use crate::bytes;
+use crate::sizes;
+use crate::stripe;
+use design::Shelf;
+use placement::fast;
+
+// How many stripes have an exclusive-or that is not all zeros.
+pub fn count_wrong(shelf: Shelf, image: &[u8]) -> usize
+    requires { ⌜ Held shelf (now image) ⌝ }
+    ensures { λ r. ⌜ r ≡ count (wrong shelf (now (image .entry))) (stripes (layoutIn shelf)) ⌝ }
+{
+    let table = shelf.table;
+    let ranks = fast::ranks(&table, shelf.b * shelf.k);
+    let shape = sizes::shape_of(shelf);
+    let size = shape.size;
+    let mut sum = [0u8; 4096];
+    let mut wrong = 0;
+    for s in 0..fast::stripes(shelf) {
+        stripe::gather(&mut sum[..size], image, &table, &ranks, shape, s, shelf.k);
+        if !bytes::is_zero(&sum[..size]) {
+            wrong += 1;
+        }
+    }
+    wrong
+}

@@ -1,0 +1,74 @@
+// The rebuild of the lost disk, offset after offset.
+ghost use mathlib.Core.Path.{_≡_};
+ghost use mathlib.Core.Bool.{true, cond};
+ghost use Prim.Native.Nat.{_-_, _<_};
+ghost use lib.Dec.{ltb, eqb};
+ghost use Rattle.design.specs.Count.{listFrom};
+ghost use Rattle.design.specs.Shelf.{isShelf};
+ghost use Rattle.parity.specs.Calls.{rebuiltImage, readFrom};
+ghost use Rattle.parity.specs.Shapes.{Held};
+use crate::sizes;
+use crate::stripe;
+use design::Loss;
+use design::Shelf;
+use placement::fast;
+
+// Which unit of its stripe stands at a position: data before and after the parity in address order, the parity last.
+fn index_of(k: usize, parity: usize, position: usize) -> usize
+    requires { ⌜ (position < k) × (parity < k) ⌝ }
+    ensures { λ i. ⌜ i ≡ cond (eqb position parity) (k - 1) (cond (ltb position parity) position (position - 1)) ⌝ }
+{
+    if position == parity {
+        return k - 1;
+    }
+    if position < parity {
+        position
+    } else {
+        position - 1
+    }
+}
+
+// Each unit of the lost disk becomes the exclusive-or of the rest of its stripe. Where its tuples stand in the table is
+// looked up once.
+pub fn restore_disk(shelf: Shelf, image: &mut [u8])
+    requires { ⌜ Held shelf (now image) ⌝ }
+    ensures { λ _. ⌜ now (image .exit) ≡ rebuiltImage shelf (now (image .entry)) ⌝ }
+{
+    let loss = shelf.loss;
+    let Loss::Disk(lost) = loss else {
+        return;
+    };
+    let k = shelf.k;
+    let r = shelf.r;
+    let table = shelf.table;
+    let ranks = fast::ranks(&table, shelf.b * k);
+    let entries = fast::entries(&table, shelf.b * k, lost);
+    let shape = sizes::shape_of(shelf);
+    for o in 0..shape.depth {
+        let entry = entries[o % r] as usize;
+        let row = o / r;
+        let s = row * shelf.b + entry / k;
+        let i = index_of(k, k - 1 - row % k, entry % k);
+        stripe::restore(image, &table, &ranks, shape, s, i);
+    }
+}
+
+// The units read from each disk: lambda for each copy, of which there are T·k, from every other disk below v.
+pub fn counts(shelf: Shelf) -> [usize; 64]
+    requires { ⌜ isShelf shelf ≡ true ⌝ }
+    ensures { λ r. ⌜ r ≡ listFrom 0 64 (readFrom shelf (shelf .loss)) ⌝ }
+{
+    let mut counts = [0; 64];
+    let loss = shelf.loss;
+    let Loss::Disk(lost) = loss else {
+        return counts;
+    };
+    let v = shelf.v;
+    let each = shelf.T * shelf.k * shelf.lambda;
+    for e in 0..v {
+        if e != lost as usize {
+            counts[e] = each;
+        }
+    }
+    counts
+}

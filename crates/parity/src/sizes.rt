@@ -1,0 +1,38 @@
+// The sizes of a shelf's image.
+ghost use mathlib.Core.Path.{_≡_};
+ghost use mathlib.Core.Bool.{true};
+ghost use Rattle.design.specs.Shelf.{isShelf};
+ghost use Rattle.parity.specs.Stripe.{unitSize, imageSize};
+ghost use Rattle.parity.specs.Shapes.{shapeIn};
+use crate::Shape;
+use design::Shelf;
+use placement::fast;
+
+// U.
+pub fn unit_size(shelf: Shelf) -> usize
+    requires { ⌜ isShelf shelf ≡ true ⌝ }
+    ensures { λ r. ⌜ r ≡ unitSize shelf ⌝ }
+{
+    1 << shelf.u
+}
+
+// The bytes of v disks.
+pub fn image_size(shelf: Shelf) -> usize
+    requires { ⌜ isShelf shelf ≡ true ⌝ }
+    ensures { λ r. ⌜ r ≡ imageSize shelf ⌝ }
+{
+    shelf.v * fast::offsets(shelf) * unit_size(shelf)
+}
+
+pub fn shape_of(shelf: Shelf) -> Shape
+    requires { ⌜ isShelf shelf ≡ true ⌝ }
+    ensures { λ r. ⌜ r ≡ shapeIn shelf ⌝ }
+{
+    Shape {
+        k: shelf.k,
+        b: shelf.b,
+        r: shelf.r,
+        depth: fast::offsets(shelf),
+        size: unit_size(shelf),
+    }
+}

@@ -1,0 +1,11 @@
+pub mod Verdicts
+pub mod Moments
+pub mod Shelves
+pub mod Remembers
+pub mod EachRead
+pub mod Copies
+pub mod EachRebuild
+pub mod SecondLoss
+pub mod BytesTouched
+pub mod EqualImages
+pub mod Possible

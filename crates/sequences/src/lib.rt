@@ -1,0 +1,1 @@
+// Theorems only: demand 3 over whole sequences of calls (see specs/).
