@@ -64,7 +64,7 @@ pub fn look_up(shelf: Shelf, disk: usize, offset: usize) -> LookUp
 
 // Of a run of n records, the first rule that is broken. The sum of `first` and n may not fit, so n is held against what is
 // left.
-fn run_verdict(shelf: Shelf, first: usize, n: usize) -> Verdict
+pub fn run_verdict(shelf: Shelf, first: usize, n: usize) -> Verdict
     ensures { λ r. ⌜ r ≡ firstBroken (runRules shelf first n) ⌝ }
 {
     if !shelf.is_shelf() {

@@ -1,0 +1,13 @@
+pub mod Copying
+pub mod Numbering
+pub mod Holding
+pub mod Answering
+pub mod Sizing
+pub mod Spotted
+pub mod Starts
+pub mod Bits
+pub mod Changing
+pub mod NumbersBack
+pub mod Returned
+pub mod Leaving
+pub mod Unique

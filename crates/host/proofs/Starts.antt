@@ -1,0 +1,143 @@
+-- Where a shown part starts: what its length tells of the call, and that the bytes there are those shown. Assumes nothing.
+use mathlib.Core.Path.{_≡_, refl, sym, ap, _∙_}
+use mathlib.Core.Bool.{true, false, cond}
+use mathlib.Core.List.{List, [], _∷_}
+use Prim.Native.Nat.{ℕ, _+_, _*_, _≤_}
+use native.Mathlib.Omega.{arith}
+use lib.Arith.{digits-lt}
+use lib.ListN.{length, take, drop}
+use lib.Pow.{pow-pos}
+use Rattle.design.specs.declared.Refusal.{Refusal}
+use Rattle.design.specs.declared.Shelf.{Shelf}
+use Rattle.design.specs.declared.Verdict.{Verdict}
+use Rattle.design.specs.declared.Verdict.the-variants.{Accepted, Refused}
+use Rattle.design.specs.Refusals.{firstBroken}
+use Rattle.placement.specs.Layout.{layoutIn, stripeOf, jOf}
+use Rattle.placement.specs.declared.Spot.{Spot}
+use Rattle.placement.specs.Placed.{spotOf}
+use Rattle.parity.specs.Units.{unitAt}
+use Rattle.parity.specs.Stripe.{unitSize, depth, units, unitIn, present, cell}
+use Rattle.parity.specs.Calls.{placeRules, placeShown, unitRules, addressShown}
+use Rattle.parity.proofs.Accepted.{PlaceCall, show-place-accepted, UnitCall, unit-accepted}
+use Rattle.parity.proofs.By.{by-accepted, by-refused}
+use Rattle.parity.proofs.Cases.{cases}
+use Rattle.parity.proofs.Image.{unit-fits}
+use Rattle.parity.proofs.Shown.{place-empty, place-unit, address-empty}
+use Rattle.parity.proofs.Spots.{spot-unit, spot-offset-lt, spot-disk-lt}
+use Rattle.host.specs.Stored.{refusedStart, secondStart, placeStart, addressStart}
+
+none-is : (l : List ℕ) → length l ≡ 0 → l ≡ []
+none-is [] e = refl
+none-is (x ∷ l) e = absurd (omega arith)
+
+-- a verdict that is no refusal
+not-refused : (v : Verdict) → ((x : Refusal) → v ≡ Refused x → ⊥) → v ≡ Accepted
+not-refused Accepted no-refusal = refl
+not-refused (Refused x) no-refusal = absurd (no-refusal x refl)
+
+-- ---- a place
+
+module _ (h : Shelf) (image : List ℕ) (d o : ℕ) where
+  abbrev v : Verdict
+  v = firstBroken (placeRules h (length image) d o)
+
+  -- the empty part is a refusal, any other an accepted call
+  pub place-refused : length (placeShown h image d o) ≡ 0 → (x : Refusal) × (firstBroken (placeRules h (length image) d o) ≡ Refused x)
+  place-refused e = place-empty h image d o .0 (none-is (placeShown h image d o) e)
+
+  pub place-accepted : (length (placeShown h image d o) ≡ 0 → ⊥) → firstBroken (placeRules h (length image) d o) ≡ Accepted
+  place-accepted some = not-refused v (λ x e. some (ap length (place-empty h image d o .1 (x, e))))
+
+  pub place-call : (length (placeShown h image d o) ≡ 0 → ⊥) → PlaceCall h image d o
+  place-call some = show-place-accepted h image d o .0 (place-accepted some)
+
+  pub start-refused : length (placeShown h image d o) ≡ 0 → refusedStart ≡ placeStart h (length image) d o
+  unfolding placeStart
+  start-refused e = sym (by-refused _ _ (place-refused e .1))
+
+  pub start-at : (length (placeShown h image d o) ≡ 0 → ⊥) → (d * depth h + o) * unitSize h ≡ placeStart h (length image) d o
+  unfolding placeStart
+  start-at some = sym (by-accepted _ _ (place-accepted some))
+
+  -- the U bytes from there on are the part that is shown, and they are in the image
+  pub start-shows : firstBroken (placeRules h (length image) d o) ≡ Accepted
+      → (take (unitSize h) (drop (placeStart h (length image) d o) image) ≡ placeShown h image d o)
+      × (placeStart h (length image) d o + unitSize h ≤ length image)
+  unfolding placeStart placeShown unitAt
+  start-shows e =
+      let w = show-place-accepted h image d o .0 e in
+      let at = by-accepted ((d * depth h + o) * unitSize h) refusedStart e in (
+        ap (λ (n : ℕ). take (unitSize h) (drop n image)) at ∙ sym (by-accepted _ [] e),
+        rw at (unit-fits (unitSize h) (units h) image (w .stored .size) (d * depth h + o) (digits-lt (w .disk) (w .offset))),
+      )
+
+-- ---- an address
+
+module _ (h : Shelf) (image : List ℕ) (a : ℕ) (other : List ℕ) where
+  abbrev verdict : Verdict
+  verdict = firstBroken (unitRules h (length image) a (length other))
+
+  abbrev unit : ℕ
+  unit = unitIn h (stripeOf (layoutIn h) a) (jOf (layoutIn h) a)
+
+  abbrev spot : Spot
+  spot = spotOf (layoutIn h) a
+
+  pub address-refused : length (addressShown h image a other) ≡ 0 → refusedStart ≡ addressStart h (length image) a (length other)
+  unfolding addressStart
+  address-refused e = sym (by-refused _ _ (address-empty h image a other .0 (none-is (addressShown h image a other) e) .1))
+
+  address-accepted : (length (addressShown h image a other) ≡ 0 → ⊥) → verdict ≡ Accepted
+  address-accepted some = not-refused verdict (λ x e. some (ap length (address-empty h image a other .1 (x, e))))
+
+  pub address-call : (length (addressShown h image a other) ≡ 0 → ⊥) → UnitCall h image a other
+  address-call some = unit-accepted h image a other .0 (address-accepted some)
+
+  -- an address that may be shown: from the image exactly where its place may be shown
+  module _ (some : length (addressShown h image a other) ≡ 0 → ⊥) where
+    call : UnitCall h image a other
+    call = address-call some
+
+    place-is : spot .disk * depth h + spot .offset ≡ unit
+    place-is = spot-unit h (call .stored .shelf) a (call .address)
+
+    start-is : addressStart h (length image) a (length other) ≡ cond (present h unit) (unit * unitSize h) secondStart
+    unfolding addressStart
+    start-is = by-accepted _ refusedStart (address-accepted some)
+
+    present-shows : present h unit ≡ true → length (placeShown h image (spot .disk) (spot .offset)) ≡ 0 → ⊥
+    present-shows p e =
+        let here : PlaceCall h image (spot .disk) (spot .offset) =
+        record {
+          stored = call .stored;
+          disk = spot-disk-lt h (call .stored .shelf) a (call .address);
+          offset = spot-offset-lt h (call .stored .shelf) a (call .address);
+          here = ap (present h) place-is ∙ p;
+        } in
+        omega (arith, place-unit h image (spot .disk) (spot .offset) (show-place-accepted h image (spot .disk) (spot .offset) .1 here) .1, pow-pos (h .u))
+
+    pub address-second : length (placeShown h image (spot .disk) (spot .offset)) ≡ 0 → secondStart ≡ addressStart h (length image) a (length other)
+    address-second e =
+        cases (present h unit) (λ p. absurd (present-shows p e))
+        (λ p. sym (start-is ∙ ap (λ t. cond t (unit * unitSize h) secondStart) p))
+
+    pub address-here : (length (placeShown h image (spot .disk) (spot .offset)) ≡ 0 → ⊥)
+        → (spot .disk * depth h + spot .offset) * unitSize h ≡ addressStart h (length image) a (length other)
+    address-here there =
+        let p : present h unit ≡ true = ap (present h) (sym place-is) ∙ place-call h image (spot .disk) (spot .offset) there .here in
+        ap (λ (n : ℕ). n * unitSize h) place-is ∙ sym (start-is ∙ ap (λ t. cond t (unit * unitSize h) secondStart) p)
+
+  -- the U bytes from there on, or the second buffer, are the part that is shown
+  module _ (e : firstBroken (unitRules h (length image) a (length other)) ≡ Accepted) where
+    pub address-shows : present h unit ≡ true → take (unitSize h) (drop (addressStart h (length image) a (length other)) image) ≡ addressShown h image a other
+    unfolding addressStart addressShown cell unitAt
+    address-shows p =
+        ap (λ (n : ℕ). take (unitSize h) (drop n image)) (by-accepted (cond (present h unit) (unit * unitSize h) secondStart) refusedStart e ∙ ap (λ t. cond t (unit * unitSize h) secondStart) p)
+        ∙ sym (by-accepted (cond (present h unit) (cell h image (stripeOf (layoutIn h) a) (jOf (layoutIn h) a)) other) [] e ∙ ap (λ t. cond t (cell h image (stripeOf (layoutIn h) a) (jOf (layoutIn h) a)) other) p)
+
+    pub second-shows : present h unit ≡ false → (addressStart h (length image) a (length other) ≡ secondStart) × (addressShown h image a other ≡ other)
+    unfolding addressStart addressShown
+    second-shows p = (
+      by-accepted _ refusedStart e ∙ ap (λ t. cond t (unit * unitSize h) secondStart) p,
+      by-accepted _ [] e ∙ ap (λ t. cond t (cell h image (stripeOf (layoutIn h) a) (jOf (layoutIn h) a)) other) p,
+    )

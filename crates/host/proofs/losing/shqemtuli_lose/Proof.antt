@@ -1,0 +1,77 @@
+-- `host::shqemtuli_lose` meets its contract: what is given and left is as the verdict says. Assumes nothing.
+use borrow.Author.Needs.{needs}
+use mathlib.Core.Path.{sym, ap, _∙_}
+use Rattle.design.specs.declared.Shelf.{Shelf}
+use Rattle.parity.specs.declared.Losing.{Losing}
+use Rattle.parity.specs.Calls.{lost}
+use Rattle.host.specs.Value.{withShelf}
+use Rattle.host.proofs.Holding.{value-length}
+use Rattle.host.proofs.Answering.{given-refused, given-accepted}
+use Rattle.host.proofs.Changing.{losing-shelf}
+use Rattle.host.proofs.losing.shqemtuli_lose.Statement.{statement}
+use Rattle.host.proofs.losing.shqemtuli_lose.Tie as tie
+
+shelf-requires : tie.Need-shelf-requires
+shelf-requires c κs = search needs
+
+lose-requires : tie.Need-lose-requires
+lose-requires c κs = search needs
+
+enum-told : tie.Need-enum-told
+enum-told c = search needs
+
+enum-told-2 : tie.Need-enum-told-2
+enum-told-2 c = search needs
+
+of-verdict-requires : tie.Need-of-verdict-requires
+of-verdict-requires c κs = search needs
+
+same-length : tie.Need-same-length
+same-length c = search needs
+
+returns : tie.Need-returns
+returns c =
+    let at-enum-told2 = c .before in
+    let at-lose = at-enum-told2 .before .before in
+    let at-shelf = at-lose .before in
+    let start = at-shelf .before .before .before in
+    let e = at-lose .lose .ensures ∙ ap (λ (h : Shelf). lost h (start .args .disk)) (at-shelf .shelf .ensures) in
+    given-refused _ _ (c .of-verdict .ensures) (ap (λ (x : Losing). x .verdict) e) (at-enum-told2 .enum-told2 .given .1)
+
+put-requires : tie.Need-put-requires
+put-requires c κs =
+    let at-enum-told = c .before .before in
+    let at-lose = at-enum-told .before .before in
+    let at-shelf = at-lose .before in
+    let start = at-shelf .before .before .before in
+    let e = at-lose .lose .ensures ∙ ap (λ (h : Shelf). lost h (start .args .disk)) (at-shelf .shelf .ensures) in
+    value-length _ (losing-shelf _ (start .args .disk) (ap (λ (x : Losing). x .verdict) (sym e) ∙ at-enum-told .enum-told .given .1))
+
+same-length-2 : tie.Need-same-length-2
+same-length-2 c = search needs
+
+returns-2 : tie.Need-returns-2
+returns-2 c =
+    let at-put = c .before .before in
+    let at-enum-told = at-put .before .before .before in
+    let at-lose = at-enum-told .before .before in
+    let at-shelf = at-lose .before in
+    let start = at-shelf .before .before .before in
+    let e = at-lose .lose .ensures ∙ ap (λ (h : Shelf). lost h (start .args .disk)) (at-shelf .shelf .ensures) in
+    given-accepted _ (ap (λ (x : Losing). x .verdict) e) (at-enum-told .enum-told .given .1)
+    (at-put .put .ensures ∙ ap (λ (x : Losing). withShelf (start .args .shelf .now) (x .shelf)) e)
+
+pub shqemtuli-lose-spec : {M : Type 1} → statement M
+shqemtuli-lose-spec =
+    tie.close
+    (tie.spec
+    shelf-requires
+    lose-requires
+    enum-told
+    enum-told-2
+    of-verdict-requires
+    same-length
+    returns
+    put-requires
+    same-length-2
+    returns-2)

@@ -1,0 +1,110 @@
+-- `host::shqemtuli_rebuild` meets its contract: it is told what the call below promises. Assumes nothing.
+use borrow.Author.Needs.{needs}
+use mathlib.Core.Path.{refl, sym}
+use Rattle.host.proofs.Holding.{value-length}
+use Rattle.host.proofs.Answering.{into-other, into-fits, given-refused, given-accepted}
+use Rattle.host.proofs.Changing.{rebuilding-shelf, rebuilt-counts}
+use Rattle.host.proofs.losing.shqemtuli_rebuild.Statement.{statement}
+use Rattle.host.proofs.losing.shqemtuli_rebuild.Tie as tie
+
+returns : tie.Need-returns
+returns c = into-other (c .if1 .taken) refl (refl, refl, refl)
+
+shelf-requires : tie.Need-shelf-requires
+shelf-requires c κs = search needs
+
+rebuild-requires : tie.Need-rebuild-requires
+rebuild-requires c κs = search needs
+
+put-counts-requires : tie.Need-put-counts-requires
+put-counts-requires c κs =
+    let at-rebuild = c .before .before .before .before .before in
+    let passed = at-rebuild .before .before .before .before in
+    (passed .if1 .left, rebuilt-counts (at-rebuild .rebuild .ensures))
+
+enum-told : tie.Need-enum-told
+enum-told c = search needs
+
+enum-told-2 : tie.Need-enum-told-2
+enum-told-2 c = search needs
+
+of-verdict-requires : tie.Need-of-verdict-requires
+of-verdict-requires c κs = search needs
+
+same-length : tie.Need-same-length
+same-length c = search needs
+
+same-length-2 : tie.Need-same-length-2
+same-length-2 c = search needs
+
+same-length-3 : tie.Need-same-length-3
+same-length-3 c = search needs
+
+returns-2 : tie.Need-returns-2
+returns-2 c =
+    let at-enum-told2 = c .before in
+    let at-put-counts = at-enum-told2 .before .before .before .before in
+    let at-rebuild = at-put-counts .before .before .before .before .before .before in
+    let at-shelf = at-rebuild .before .before in
+    let passed = at-shelf .before .before in
+    let w = given-refused _ _ (c .of-verdict .ensures) refl (at-enum-told2 .enum-told2 .given .1) in
+    into-fits (passed .if1 .left)
+    (record {
+      answer = at-rebuild .rebuild .result;
+      keeps = rw (sym (at-shelf .shelf .ensures)) (at-rebuild .rebuild .ensures);
+      gives = (w .0, w .1, at-put-counts .put-counts .ensures);
+    })
+
+put-requires : tie.Need-put-requires
+put-requires c κs =
+    let at-enum-told = c .before .before in
+    let at-rebuild = at-enum-told .before .before .before .before .before .before .before .before .before .before in
+    let at-shelf = at-rebuild .before .before in
+    let start = at-shelf .before .before .before .before .before .before in
+    value-length (start .args .shelf .now) (rw (sym (at-shelf .shelf .ensures)) (rebuilding-shelf (at-rebuild .rebuild .ensures) (at-enum-told .enum-told .given .1)))
+
+same-length-4 : tie.Need-same-length-4
+same-length-4 c = search needs
+
+same-length-5 : tie.Need-same-length-5
+same-length-5 c = search needs
+
+same-length-6 : tie.Need-same-length-6
+same-length-6 c = search needs
+
+returns-3 : tie.Need-returns-3
+returns-3 c =
+    let at-put = c .before .before in
+    let at-enum-told = at-put .before .before .before in
+    let at-put-counts = at-enum-told .before .before .before .before in
+    let at-rebuild = at-put-counts .before .before .before .before .before .before in
+    let at-shelf = at-rebuild .before .before in
+    let passed = at-shelf .before .before in
+    let w = given-accepted _ refl (at-enum-told .enum-told .given .1) (at-put .put .ensures) in
+    into-fits (passed .if1 .left)
+    (record {
+      answer = at-rebuild .rebuild .result;
+      keeps = rw (sym (at-shelf .shelf .ensures)) (at-rebuild .rebuild .ensures);
+      gives = (w .0, w .1, at-put-counts .put-counts .ensures);
+    })
+
+pub shqemtuli-rebuild-spec : {M : Type 1} → statement M
+shqemtuli-rebuild-spec =
+    tie.close
+    (tie.spec
+    returns
+    shelf-requires
+    rebuild-requires
+    put-counts-requires
+    enum-told
+    enum-told-2
+    of-verdict-requires
+    same-length
+    same-length-2
+    same-length-3
+    returns-2
+    put-requires
+    same-length-4
+    same-length-5
+    same-length-6
+    returns-3)

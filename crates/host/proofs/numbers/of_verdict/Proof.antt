@@ -1,0 +1,26 @@
+-- `host::numbers::of_verdict` meets its contract: each arm is told the verdict. Assumes nothing.
+use borrow.Author.Needs.{needs}
+use Rattle.host.specs.Answers.{numberOf}
+use Rattle.host.proofs.numbers.of_verdict.Statement.{statement}
+use Rattle.host.proofs.numbers.of_verdict.Tie as tie
+
+enum-told : tie.Need-enum-told
+enum-told c = search needs
+
+enum-known-verdict : tie.Need-enum-known-verdict
+enum-known-verdict c = search needs
+
+number-requires : tie.Need-number-requires
+number-requires c κs = search needs
+
+returns : tie.Need-returns
+unfolding numberOf
+returns c = rw (c .enum-told .given .1)
+
+returns-2 : tie.Need-returns-2
+unfolding numberOf
+returns-2 c = rw (c .before .before .verdict .given .1) (c .number .ensures)
+
+pub of-verdict-spec : {M : Type 1} → statement M
+of-verdict-spec =
+    tie.close (tie.spec enum-told enum-known-verdict number-requires returns returns-2)

@@ -1,0 +1,33 @@
+-- `host::places::put_three` meets its contract: each number is put after those before it. Assumes nothing.
+use borrow.Author.Needs.{needs}
+use mathlib.Core.Path.{refl}
+use Rattle.host.proofs.Numbering.{numbered-none, numbered-put}
+use Rattle.host.proofs.places.put_three.Statement.{statement}
+use Rattle.host.proofs.places.put_three.Tie as tie
+
+put-requires : tie.Need-put-requires
+put-requires c κs = search needs
+
+put-requires-2 : tie.Need-put-requires-2
+put-requires-2 c κs = search needs
+
+put-requires-3 : tie.Need-put-requires-3
+put-requires-3 c κs = search needs
+
+same-length : tie.Need-same-length
+same-length c = search needs
+
+returns : tie.Need-returns
+returns c =
+    let at-put3 = c .before .before in
+    let at-put2 = at-put3 .before .before .before .before in
+    let at-put = at-put2 .before .before .before .before in
+    let start = at-put .before .before .before in
+    let out = start .args .out .now in
+    let stripe = numbered-put out 0 _ _ (at-put .put .ensures) (numbered-none out 0) refl in
+    let address = numbered-put out 0 _ _ (at-put2 .put2 .ensures) stripe refl in
+    numbered-put out 0 _ _ (at-put3 .put3 .ensures) address refl
+
+pub put-three-spec : {M : Type 1} → statement M
+put-three-spec =
+    tie.close (tie.spec put-requires put-requires-2 put-requires-3 same-length returns)

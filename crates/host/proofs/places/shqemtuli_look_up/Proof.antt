@@ -1,0 +1,93 @@
+-- `host::shqemtuli_look_up` meets its contract: what is given and left is as the answer says. Assumes nothing.
+use borrow.Author.Needs.{needs}
+use mathlib.Core.Path.{refl, sym, ap, _∙_}
+use Rattle.design.specs.declared.Shelf.{Shelf}
+use Rattle.placement.specs.Placed.{lookedUp}
+use Rattle.host.proofs.Answering.{into-other, into-fits}
+use Rattle.host.proofs.Spotted.{found-data, found-parity, found-refused}
+use Rattle.host.proofs.places.shqemtuli_look_up.Statement.{statement}
+use Rattle.host.proofs.places.shqemtuli_look_up.Tie as tie
+
+returns : tie.Need-returns
+returns c = into-other (c .if1 .taken) refl refl
+
+shelf-requires : tie.Need-shelf-requires
+shelf-requires c κs = search needs
+
+look-up-requires : tie.Need-look-up-requires
+look-up-requires c κs = search needs
+
+enum-known-found : tie.Need-enum-known-found
+enum-known-found c = search needs
+
+put-three-requires : tie.Need-put-three-requires
+put-three-requires c κs = search needs
+
+enum-known-found-2 : tie.Need-enum-known-found-2
+enum-known-found-2 c = search needs
+
+put-three-requires-2 : tie.Need-put-three-requires-2
+put-three-requires-2 c κs = search needs
+
+enum-known-found-3 : tie.Need-enum-known-found-3
+enum-known-found-3 c = search needs
+
+number-requires : tie.Need-number-requires
+number-requires c κs = search needs
+
+same-length : tie.Need-same-length
+same-length c = search needs
+
+returns-2 : tie.Need-returns-2
+returns-2 c =
+    let at-put-three = c .before .before in
+    let at-found = at-put-three .before .before .before in
+    let at-look-up = at-found .before .before in
+    let at-shelf = at-look-up .before in
+    let passed = at-shelf .before in
+    let start = passed .before .before .before in
+    let answered = at-look-up .look-up .ensures ∙ ap (λ (h : Shelf). lookedUp h (start .args .disk) (start .args .offset)) (at-shelf .shelf .ensures) in
+    into-fits (passed .if1 .left) (found-data _ (sym answered ∙ at-found .found .given .1) (at-put-three .put-three .ensures))
+
+same-length-2 : tie.Need-same-length-2
+same-length-2 c = search needs
+
+returns-3 : tie.Need-returns-3
+returns-3 c =
+    let at-put-three2 = c .before .before in
+    let at-found2 = at-put-three2 .before .before .before in
+    let at-look-up = at-found2 .before .before in
+    let at-shelf = at-look-up .before in
+    let passed = at-shelf .before in
+    let start = passed .before .before .before in
+    let answered = at-look-up .look-up .ensures ∙ ap (λ (h : Shelf). lookedUp h (start .args .disk) (start .args .offset)) (at-shelf .shelf .ensures) in
+    into-fits (passed .if1 .left) (found-parity _ (sym answered ∙ at-found2 .found2 .given .1) (at-put-three2 .put-three2 .ensures))
+
+returns-4 : tie.Need-returns-4
+returns-4 c =
+    let at-found3 = c .before .before in
+    let at-look-up = at-found3 .before .before in
+    let at-shelf = at-look-up .before in
+    let passed = at-shelf .before in
+    let start = passed .before .before .before in
+    let answered = at-look-up .look-up .ensures ∙ ap (λ (h : Shelf). lookedUp h (start .args .disk) (start .args .offset)) (at-shelf .shelf .ensures) in
+    into-fits (passed .if1 .left) (found-refused _ (sym answered ∙ at-found3 .found3 .given .1) (c .number .ensures))
+
+pub shqemtuli-look-up-spec : {M : Type 1} → statement M
+shqemtuli-look-up-spec =
+    tie.close
+    (tie.spec
+    returns
+    shelf-requires
+    look-up-requires
+    enum-known-found
+    put-three-requires
+    enum-known-found-2
+    put-three-requires-2
+    enum-known-found-3
+    number-requires
+    same-length
+    returns-2
+    same-length-2
+    returns-3
+    returns-4)

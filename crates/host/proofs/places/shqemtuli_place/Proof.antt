@@ -1,0 +1,69 @@
+-- `host::shqemtuli_place` meets its contract: what is given and left is as the answer says. Assumes nothing.
+use borrow.Author.Needs.{needs}
+use mathlib.Core.Path.{refl, sym, ap, _∙_}
+use Rattle.design.specs.declared.Shelf.{Shelf}
+use Rattle.placement.specs.Placed.{placed}
+use Rattle.host.proofs.Answering.{into-other, into-fits}
+use Rattle.host.proofs.Spotted.{placing-at, placing-refused}
+use Rattle.host.proofs.places.shqemtuli_place.Statement.{statement}
+use Rattle.host.proofs.places.shqemtuli_place.Tie as tie
+
+returns : tie.Need-returns
+returns c = into-other (c .if1 .taken) refl refl
+
+shelf-requires : tie.Need-shelf-requires
+shelf-requires c κs = search needs
+
+place-requires : tie.Need-place-requires
+place-requires c κs = search needs
+
+enum-known-placing : tie.Need-enum-known-placing
+enum-known-placing c = search needs
+
+put-spot-requires : tie.Need-put-spot-requires
+put-spot-requires c κs = search needs
+
+enum-known-placing-2 : tie.Need-enum-known-placing-2
+enum-known-placing-2 c = search needs
+
+number-requires : tie.Need-number-requires
+number-requires c κs = search needs
+
+same-length : tie.Need-same-length
+same-length c = search needs
+
+returns-2 : tie.Need-returns-2
+returns-2 c =
+    let at-put-spot = c .before .before in
+    let at-placing = at-put-spot .before .before .before in
+    let at-place = at-placing .before .before in
+    let at-shelf = at-place .before in
+    let passed = at-shelf .before in
+    let start = passed .before .before .before in
+    let answered = at-place .place .ensures ∙ ap (λ (h : Shelf). placed h (start .args .address)) (at-shelf .shelf .ensures) in
+    into-fits (passed .if1 .left) (placing-at _ (sym answered ∙ at-placing .placing .given .1) (at-put-spot .put-spot .ensures))
+
+returns-3 : tie.Need-returns-3
+returns-3 c =
+    let at-placing2 = c .before .before in
+    let at-place = at-placing2 .before .before in
+    let at-shelf = at-place .before in
+    let passed = at-shelf .before in
+    let start = passed .before .before .before in
+    let answered = at-place .place .ensures ∙ ap (λ (h : Shelf). placed h (start .args .address)) (at-shelf .shelf .ensures) in
+    into-fits (passed .if1 .left) (placing-refused _ (sym answered ∙ at-placing2 .placing2 .given .1) (c .number .ensures))
+
+pub shqemtuli-place-spec : {M : Type 1} → statement M
+shqemtuli-place-spec =
+    tie.close
+    (tie.spec
+    returns
+    shelf-requires
+    place-requires
+    enum-known-placing
+    put-spot-requires
+    enum-known-placing-2
+    number-requires
+    same-length
+    returns-2
+    returns-3)

@@ -1,0 +1,87 @@
+-- `host::shqemtuli_run` meets its contract: what is given and left is as the verdict says. Assumes nothing.
+use borrow.Author.Needs.{needs}
+use mathlib.Core.Path.{refl, sym, ap, _∙_}
+use Prim.Native.Nat.{_/_}
+use lib.ListN.{length}
+use Rattle.design.specs.declared.Shelf.{Shelf}
+use Rattle.design.specs.Refusals.{firstBroken}
+use Rattle.placement.specs.Layout.{layoutIn}
+use Rattle.placement.specs.Placed.{runRules}
+use Rattle.placement.proofs.Running.{accepted-runs}
+use Rattle.host.specs.Places.{spotsInto}
+use Rattle.host.proofs.Answering.{given-refused, given-accepted}
+use Rattle.host.proofs.places.shqemtuli_run.Statement.{statement}
+use Rattle.host.proofs.places.shqemtuli_run.Tie as tie
+
+returns : tie.Need-returns
+returns c = record { fits = λ e. absurd (c .if1 .taken e); other = λ o. (refl, refl) }
+
+shelf-requires : tie.Need-shelf-requires
+shelf-requires c κs = search needs
+
+run-verdict-requires : tie.Need-run-verdict-requires
+run-verdict-requires c κs = search needs
+
+enum-told : tie.Need-enum-told
+enum-told c = search needs
+
+enum-told-2 : tie.Need-enum-told-2
+enum-told-2 c = search needs
+
+of-verdict-requires : tie.Need-of-verdict-requires
+of-verdict-requires c κs = search needs
+
+returns-2 : tie.Need-returns-2
+returns-2 c =
+    let at-enum-told2 = c .before in
+    let at-run-verdict = at-enum-told2 .before .before in
+    let at-shelf = at-run-verdict .before in
+    let passed = at-shelf .before in
+    let start = passed .before .before .before in
+    let judged = at-run-verdict .run-verdict .ensures ∙ ap (λ (h : Shelf). firstBroken (runRules h (start .args .first) (length (start .args .out .now) / 16))) (at-shelf .shelf .ensures) in
+    record {
+      fits = λ e. given-refused _ _ (c .of-verdict .ensures) judged (at-enum-told2 .enum-told2 .given .1);
+      other = λ ne. absurd (ne (passed .if1 .left));
+    }
+
+put-run-requires : tie.Need-put-run-requires
+put-run-requires c κs =
+    let at-enum-told = c .before in
+    let at-run-verdict = at-enum-told .before .before in
+    let passed = at-run-verdict .before .before in
+    let w = accepted-runs _ _ _ (sym (at-run-verdict .run-verdict .ensures) ∙ at-enum-told .enum-told .given .1) in
+    (w .shelf, passed .if1 .left, w .range)
+
+same-length : tie.Need-same-length
+same-length c = search needs
+
+returns-3 : tie.Need-returns-3
+returns-3 c =
+    let at-put-run = c .before .before in
+    let at-enum-told = at-put-run .before .before in
+    let at-run-verdict = at-enum-told .before .before in
+    let at-shelf = at-run-verdict .before in
+    let passed = at-shelf .before in
+    let start = passed .before .before .before in
+    let args = start .args in
+    let judged = at-run-verdict .run-verdict .ensures ∙ ap (λ (h : Shelf). firstBroken (runRules h (start .args .first) (length (start .args .out .now) / 16))) (at-shelf .shelf .ensures) in
+    let left = at-put-run .put-run .ensures ∙ ap (λ (h : Shelf). spotsInto (layoutIn h) (args .first) 0 (length (args .out .now) / 16) (args .out .now)) (at-shelf .shelf .ensures) in
+    record {
+      fits = λ e. given-accepted _ judged (at-enum-told .enum-told .given .1) left;
+      other = λ ne. absurd (ne (passed .if1 .left));
+    }
+
+pub shqemtuli-run-spec : {M : Type 1} → statement M
+shqemtuli-run-spec =
+    tie.close
+    (tie.spec
+    returns
+    shelf-requires
+    run-verdict-requires
+    enum-told
+    enum-told-2
+    of-verdict-requires
+    returns-2
+    put-run-requires
+    same-length
+    returns-3)

@@ -1,0 +1,63 @@
+-- `host::shqemtuli_open` meets its contract: what is given and left is as the verdict says. Assumes nothing.
+use borrow.Author.Needs.{needs}
+use mathlib.Core.Path.{refl, ap, _∙_}
+use Rattle.design.specs.declared.Opened.{Opened}
+use Rattle.host.specs.Value.{withShelf}
+use Rattle.host.proofs.Answering.{into-other, into-fits, given-refused, given-accepted}
+use Rattle.host.proofs.sheet.shqemtuli_open.Statement.{statement}
+use Rattle.host.proofs.sheet.shqemtuli_open.Tie as tie
+
+returns : tie.Need-returns
+returns c = into-other (c .if1 .taken) refl refl
+
+open-requires : tie.Need-open-requires
+open-requires c κs = search needs
+
+enum-told : tie.Need-enum-told
+enum-told c = search needs
+
+enum-told-2 : tie.Need-enum-told-2
+enum-told-2 c = search needs
+
+of-verdict-requires : tie.Need-of-verdict-requires
+of-verdict-requires c κs = search needs
+
+returns-2 : tie.Need-returns-2
+returns-2 c =
+    let at-enum-told2 = c .before in
+    let at-open = at-enum-told2 .before .before in
+    let passed = at-open .before in
+    let judged = ap (λ (x : Opened). x .verdict) (at-open .«open» .ensures) in
+    into-fits (passed .if1 .left) (given-refused _ _ (c .of-verdict .ensures) judged (at-enum-told2 .enum-told2 .given .1))
+
+put-requires : tie.Need-put-requires
+put-requires c κs = search needs
+
+same-length : tie.Need-same-length
+same-length c = search needs
+
+returns-3 : tie.Need-returns-3
+returns-3 c =
+    let at-put = c .before .before in
+    let at-enum-told = at-put .before .before .before in
+    let at-open = at-enum-told .before .before in
+    let passed = at-open .before in
+    let start = passed .before .before .before in
+    let e = at-open .«open» .ensures in
+    into-fits (passed .if1 .left)
+    (given-accepted _ (ap (λ (x : Opened). x .verdict) e) (at-enum-told .enum-told .given .1)
+    (at-put .put .ensures ∙ ap (λ (x : Opened). withShelf (start .args .out .now) (x .shelf)) e))
+
+pub shqemtuli-open-spec : {M : Type 1} → statement M
+shqemtuli-open-spec =
+    tie.close
+    (tie.spec
+    returns
+    open-requires
+    enum-told
+    enum-told-2
+    of-verdict-requires
+    returns-2
+    put-requires
+    same-length
+    returns-3)

@@ -1,0 +1,62 @@
+-- `host::shqemtuli_write_back` meets its contract: the answer's number, by its two arms. Assumes nothing.
+use borrow.Author.Needs.{needs}
+use mathlib.Core.Path.{sym}
+use Rattle.host.proofs.Answering.{back-length, back-refused}
+use Rattle.host.proofs.sheet.shqemtuli_write_back.Statement.{statement}
+use Rattle.host.proofs.sheet.shqemtuli_write_back.Tie as tie
+
+shelf-requires : tie.Need-shelf-requires
+shelf-requires c κs = search needs
+
+write-back-requires : tie.Need-write-back-requires
+write-back-requires c κs = search needs
+
+enum-told : tie.Need-enum-told
+enum-told c = search needs
+
+enum-known-written : tie.Need-enum-known-written
+enum-known-written c = search needs
+
+number-requires : tie.Need-number-requires
+number-requires c κs = search needs
+
+same-length : tie.Need-same-length
+same-length c = search needs
+
+returns : tie.Need-returns
+returns c =
+    let at-write-back = c .before .before .before .before in
+    let at-shelf = at-write-back .before .before in
+    record {
+      answer = at-write-back .write-back .result;
+      keeps = rw (sym (at-shelf .shelf .ensures)) (at-write-back .write-back .ensures);
+      gives = back-length (c .enum-told .given .1);
+    }
+
+same-length-2 : tie.Need-same-length-2
+same-length-2 c = search needs
+
+returns-2 : tie.Need-returns-2
+returns-2 c =
+    let at-written = c .before .before in
+    let at-write-back = at-written .before .before .before .before in
+    let at-shelf = at-write-back .before .before in
+    record {
+      answer = at-write-back .write-back .result;
+      keeps = rw (sym (at-shelf .shelf .ensures)) (at-write-back .write-back .ensures);
+      gives = back-refused (at-written .written .given .1) (c .number .ensures);
+    }
+
+pub shqemtuli-write-back-spec : {M : Type 1} → statement M
+shqemtuli-write-back-spec =
+    tie.close
+    (tie.spec
+    shelf-requires
+    write-back-requires
+    enum-told
+    enum-known-written
+    number-requires
+    same-length
+    returns
+    same-length-2
+    returns-2)

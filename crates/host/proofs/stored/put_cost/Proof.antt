@@ -1,0 +1,31 @@
+-- `host::stored::put_cost` meets its contract: each count is put after those before it. Assumes nothing.
+use borrow.Author.Needs.{needs}
+use mathlib.Core.Path.{refl}
+use Rattle.host.proofs.Numbering.{numbered-none, numbered-put}
+use Rattle.host.proofs.stored.put_cost.Statement.{statement}
+use Rattle.host.proofs.stored.put_cost.Tie as tie
+
+put-requires : tie.Need-put-requires
+put-requires c κs = search needs
+
+put-requires-2 : tie.Need-put-requires-2
+put-requires-2 c κs = search needs
+
+of-verdict-requires : tie.Need-of-verdict-requires
+of-verdict-requires c κs = search needs
+
+same-length : tie.Need-same-length
+same-length c = search needs
+
+returns : tie.Need-returns
+returns c =
+    let at-put2 = c .before .before .before in
+    let at-put = at-put2 .before .before .before .before in
+    let start = at-put .before .before .before in
+    let cost = start .args .cost .now in
+    let read = numbered-put cost 0 _ _ (at-put .put .ensures) (numbered-none cost 0) refl in
+    (c .of-verdict .ensures, numbered-put cost 0 _ _ (at-put2 .put2 .ensures) read refl)
+
+pub put-cost-spec : {M : Type 1} → statement M
+put-cost-spec =
+    tie.close (tie.spec put-requires put-requires-2 of-verdict-requires same-length returns)

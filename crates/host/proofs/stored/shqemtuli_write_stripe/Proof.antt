@@ -1,0 +1,49 @@
+-- `host::shqemtuli_write_stripe` meets its contract: it is told what the call below promises. Assumes nothing.
+use borrow.Author.Needs.{needs}
+use mathlib.Core.Path.{refl, sym}
+use Rattle.host.proofs.Answering.{into-other, into-fits}
+use Rattle.host.proofs.stored.shqemtuli_write_stripe.Statement.{statement}
+use Rattle.host.proofs.stored.shqemtuli_write_stripe.Tie as tie
+
+returns : tie.Need-returns
+returns c = into-other (c .if1 .taken) refl (refl, refl)
+
+shelf-requires : tie.Need-shelf-requires
+shelf-requires c κs = search needs
+
+write-stripe-requires : tie.Need-write-stripe-requires
+write-stripe-requires c κs = search needs
+
+put-cost-requires : tie.Need-put-cost-requires
+put-cost-requires c κs = search needs
+
+same-length : tie.Need-same-length
+same-length c = search needs
+
+same-length-2 : tie.Need-same-length-2
+same-length-2 c = search needs
+
+returns-2 : tie.Need-returns-2
+returns-2 c =
+    let at-put-cost = c .before .before in
+    let at-write-stripe = at-put-cost .before .before .before .before in
+    let at-shelf = at-write-stripe .before .before in
+    let passed = at-shelf .before in
+    into-fits (passed .if1 .left)
+    (record {
+      answer = at-write-stripe .write-stripe .result;
+      keeps = rw (sym (at-shelf .shelf .ensures)) (at-write-stripe .write-stripe .ensures);
+      gives = at-put-cost .put-cost .ensures;
+    })
+
+pub shqemtuli-write-stripe-spec : {M : Type 1} → statement M
+shqemtuli-write-stripe-spec =
+    tie.close
+    (tie.spec
+    returns
+    shelf-requires
+    write-stripe-requires
+    put-cost-requires
+    same-length
+    same-length-2
+    returns-2)

@@ -1,0 +1,31 @@
+-- `host::value::loss_of` meets its contract: 0 is none, any other number the disk below it. Assumes nothing.
+use mathlib.Core.Path.{_≡_, refl, ap}
+use Prim.Native.Nat.{ℕ, zero, suc, _-_}
+use native.Mathlib.Omega.{arith}
+use borrow.Author.Needs.{needs}
+use Rattle.design.specs.declared.Loss.the-variants.{Disk}
+use Rattle.host.specs.Value.{lossOf}
+use Rattle.host.proofs.value.loss_of.Statement.{statement}
+use Rattle.host.proofs.value.loss_of.Tie as tie
+
+-- of a number that is not 0
+loss-disk : (x : ℕ) → (x ≡ 0 → ⊥) → Disk (x - 1) ≡ lossOf x
+unfolding lossOf
+loss-disk zero none = absurd (none refl)
+loss-disk (suc d) some = let e : suc d - 1 ≡ d = omega arith in ap Disk e
+
+returns : tie.Need-returns
+unfolding lossOf
+returns c = rw (c .if1 .taken)
+
+sub-t3 : tie.Need-sub-t3
+sub-t3 c = search needs
+
+cast-t4 : tie.Need-cast-t4
+cast-t4 c = search needs
+
+returns-2 : tie.Need-returns-2
+returns-2 c = loss-disk _ (c .if1 .left)
+
+pub loss-of-spec : {M : Type 1} → statement M
+loss-of-spec = tie.close (tie.spec returns sub-t3 cast-t4 returns-2)

@@ -1,0 +1,36 @@
+-- `host::value::put` meets its contract: the numbers, and the table after them. Assumes nothing.
+use borrow.Author.Needs.{needs}
+use mathlib.Core.Path.{ap, _∙_}
+use mathlib.Core.List.{List, _++_}
+use Prim.Native.Nat.{ℕ}
+use native.Mathlib.Omega.{arith}
+use lib.ListN.{take}
+use Rattle.design.proofs.Packing.{table-length}
+use Rattle.host.specs.Value.{withShelf}
+use Rattle.host.proofs.value.put.Statement.{statement}
+use Rattle.host.proofs.value.put.Tie as tie
+
+put-numbers-requires : tie.Need-put-numbers-requires
+put-numbers-requires c κs = search needs
+
+put-table-requires : tie.Need-put-table-requires
+put-table-requires c κs =
+    let at-put-numbers = c .before .before .before .before .before in
+    let start = at-put-numbers .before .before .before in
+    let s = start in
+    (omega (arith, at-put-numbers .put-numbers .kept), table-length (s .args .shelf) _ (s .good .1 .0))
+
+same-length : tie.Need-same-length
+same-length c = search needs
+
+returns : tie.Need-returns
+unfolding withShelf
+returns c =
+    let at-put-table = c .before .before in
+    let at-put-numbers = at-put-table .before .before .before .before .before .before in
+    let start = at-put-numbers .before .before .before in
+    at-put-table .put-table .ensures ∙ ap (λ (l : List ℕ). take 32 l ++ start .args .shelf .table) (at-put-numbers .put-numbers .ensures)
+
+pub put-spec : {M : Type 1} → statement M
+put-spec =
+    tie.close (tie.spec put-numbers-requires put-table-requires same-length returns)

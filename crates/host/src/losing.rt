@@ -1,0 +1,54 @@
+// Losing a disk and rebuilding it: the calls that change the shelf value.
+ghost use mathlib.Core.Path.{_≡_};
+ghost use lib.ListN.{length};
+ghost use Rattle.host.specs.Numbers.{numbered};
+ghost use Rattle.host.specs.Stored.{HostLost, HostRebuilt};
+use crate::OTHER_BUFFER;
+use crate::numbers;
+use crate::value;
+use design::Verdict;
+
+// Declares a disk lost, in the shelf value.
+#[no_mangle]
+pub extern "C" fn shqemtuli_lose(shelf: &mut [u8], disk: usize) -> usize
+    ensures { λ r. ⌜ HostLost (now (shelf .entry)) disk r (now (shelf .exit)) ⌝ }
+{
+    let answer = parity::lose(value::shelf(shelf), disk);
+    let verdict = answer.verdict;
+    let Verdict::Accepted = verdict else {
+        return numbers::of_verdict(verdict);
+    };
+    let lost = answer.shelf;
+    value::put(shelf, lost);
+    0
+}
+
+// A reference to an array does not tell its length, so the caller does.
+fn put_counts(out: &mut [u8], counts: &[usize; 64])
+    requires { ⌜ (length (now out) ≡ 256) × (length (now counts) ≡ 64) ⌝ }
+    ensures { λ _. ⌜ now (out .exit) ≡ numbered (now (out .entry)) 0 (now (counts .entry)) ⌝ }
+{
+    for i in 0..64 {
+        numbers::put(out, i, counts[i]);
+    }
+}
+
+// Restores the lost disk; the units read from each of 64 disks go into 256 bytes.
+#[no_mangle]
+pub extern "C" fn shqemtuli_rebuild(shelf: &mut [u8], image: &mut [u8], counts: &mut [u8]) -> usize
+    ensures { λ r. ⌜ HostRebuilt (now (shelf .entry)) (now (image .entry)) (now (counts .entry)) r (now (shelf .exit)) (now (image .exit)) (now (counts .exit)) ⌝ }
+{
+    if counts.len() != 256 {
+        return OTHER_BUFFER;
+    }
+    let answer = parity::rebuild(value::shelf(shelf), image);
+    let read = answer.counts;
+    put_counts(counts, &read);
+    let verdict = answer.verdict;
+    let Verdict::Accepted = verdict else {
+        return numbers::of_verdict(verdict);
+    };
+    let rebuilt = answer.shelf;
+    value::put(shelf, rebuilt);
+    0
+}
