@@ -11,7 +11,7 @@ use Rattle.design.specs.declared.WriteBack.the-variants as WriteBack
 use Rattle.design.specs.Refusals.{number}
 use Rattle.parity.specs.Calls.{by}
 use Rattle.parity.proofs.By.{by-accepted, by-refused}
-use Rattle.host.specs.Answers.{numberOf, Into}
+use Rattle.host.specs.Answers.{numberOf, Told, Into}
 use Rattle.host.specs.Sheets.{backNumber}
 
 module _ {n r : ℕ} {buffer : List ℕ} {unaltered answered : Type 0} where
@@ -21,15 +21,17 @@ module _ {n r : ℕ} {buffer : List ℕ} {unaltered answered : Type 0} where
   pub into-fits : length buffer ≡ 4 * n → answered → Into n buffer r unaltered answered
   into-fits l answer = record { fits = λ e. answer; other = λ ne. absurd (ne l) }
 
--- what is given and left by a verdict v, which the code found as w
-pub given-refused : {A : Type 0} {v w : Verdict} {x : Refusal} {r : ℕ} (new old : A)
-    → r ≡ numberOf w → w ≡ v → w ≡ Refused x → (r ≡ numberOf v) × (old ≡ by v new old)
-given-refused new old r-is e f = (r-is ∙ ap numberOf e, sym (by-refused new old (sym e ∙ f)))
+pub told : {A : Type 0} {promised given : A → Type 0} (x : A) → promised x → given x → Told promised given
+told x kept gave = record { answer = x; keeps = kept; gives = gave }
 
-pub given-accepted : {A : Type 0} {v w : Verdict} {after new : A} (old : A)
-    → w ≡ v → w ≡ Accepted → after ≡ new → (0 ≡ numberOf v) × (after ≡ by v new old)
-unfolding numberOf
-given-accepted {new = new} old e f is = (ap numberOf (sym f ∙ e), is ∙ sym (by-accepted new old (sym e ∙ f)))
+-- what is given and left by a verdict
+module _ {A : Type 0} {v : Verdict} where
+  pub given-refused : {x : Refusal} {r : ℕ} (new old : A) → r ≡ numberOf v → v ≡ Refused x → (r ≡ numberOf v) × (old ≡ by v new old)
+  given-refused new old r-is e = (r-is, sym (by-refused new old e))
+
+  pub given-accepted : {after new : A} (old : A) → v ≡ Accepted → after ≡ new → (0 ≡ numberOf v) × (after ≡ by v new old)
+  unfolding numberOf
+  given-accepted {new = new} old e is = (sym (ap numberOf e), is ∙ sym (by-accepted new old e))
 
 pub back-length : {x : WriteBack} {n : ℕ} → x ≡ WriteBack.Length n → 0 ≡ backNumber x
 unfolding backNumber

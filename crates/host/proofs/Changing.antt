@@ -9,13 +9,14 @@ use Rattle.design.specs.declared.Verdict.{Verdict}
 use Rattle.design.specs.declared.Verdict.the-variants.{Accepted, Refused}
 use Rattle.design.specs.Shelf.{isShelf}
 use Rattle.design.proofs.Counting.{length-listFrom}
+use Rattle.parity.specs.declared.Losing.{Losing}
 use Rattle.parity.specs.declared.Rebuilding.{Rebuilding}
 use Rattle.parity.specs.Calls.{by, lost, rebuilding, Rebuilt, readFrom}
 use Rattle.parity.proofs.Accepted.{lose-accepted, rebuild-accepted}
 
-pub losing-shelf : (h : Shelf) (d : ℕ) → lost h d .verdict ≡ Accepted → isShelf h ≡ true
+pub losing-shelf : (h : Shelf) (d : ℕ) {answer : Losing} → answer ≡ lost h d → answer .verdict ≡ Accepted → isShelf h ≡ true
 unfolding lost
-losing-shelf h d e = lose-accepted h d .0 e .shelf
+losing-shelf h d is e = lose-accepted h d .0 (ap (λ (x : Losing). x .verdict) (sym is) ∙ e) .shelf
 
 count-length : (v : Verdict) (h : Shelf) → length (rebuilding v h .counts) ≡ 64
 unfolding by

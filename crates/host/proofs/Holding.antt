@@ -7,7 +7,6 @@ use native.Mathlib.Omega.{arith}
 use lib.Dec.{leb, eqb}
 use lib.ListN.{length, drop, length-drop, length-replicate}
 use borrow.Author.Tests.{le-leb, lt-leb, leb-true, leb-false, eq-eqb, ne-eqb, eqb-true, eqb-false}
-use Rattle.design.specs.declared.Loss.{Loss}
 use Rattle.design.specs.declared.Shelf.{Shelf}
 use Rattle.design.specs.Sheet.{emptyShelf}
 use Rattle.design.specs.Shelf.{isShelf}
@@ -15,12 +14,6 @@ use Rattle.design.proofs.Tests.{shelf-parts}
 use Rattle.parity.proofs.Cases.{cases}
 use Rattle.host.specs.Numbers.{numberAt}
 use Rattle.host.specs.Value.{lossOf, isValue, shelfIn}
-
--- two shelves with the same fields
-pub same-shelf : {v v′ k k′ b b′ T T′ u u′ r r′ lambda lambda′ : ℕ} {table table′ : List ℕ} {loss loss′ : Loss}
-    → v ≡ v′ → k ≡ k′ → b ≡ b′ → T ≡ T′ → u ≡ u′ → r ≡ r′ → lambda ≡ lambda′ → table ≡ table′ → loss ≡ loss′
-    → _≡_ {A = Shelf} (record { v = v; k = k; b = b; T = T; u = u; r = r; lambda = lambda; table = table; loss = loss }) (record { v = v′; k = k′; b = b′; T = T′; u = u′; r = r′; lambda = lambda′; table = table′; loss = loss′ })
-same-shelf p₁ p₂ p₃ p₄ p₅ p₆ p₇ p₈ p₉ = rw (p₁, p₂, p₃, p₄, p₅, p₆, p₇, p₈, p₉)
 
 -- the empty shelf is none
 pub empty-none : isShelf emptyShelf ≡ true → ⊥
@@ -40,21 +33,17 @@ module _ (bytes : List ℕ) where
   unfolding shelfIn isValue
   other-loss l = rw (lt-leb (numberAt bytes 7) 256 l, and-false (eqb (length bytes) 2080))
 
-  pub held-value : length bytes ≡ 2080 → numberAt bytes 7 ≤ 256
-      → record {
-        v = numberAt bytes 0;
-        k = numberAt bytes 1;
-        b = numberAt bytes 2;
-        T = numberAt bytes 3;
-        u = numberAt bytes 4;
-        r = numberAt bytes 5;
-        lambda = numberAt bytes 6;
-        table = drop 32 bytes;
-        loss = lossOf (numberAt bytes 7);
-      }
-      ≡ shelfIn bytes
-  unfolding shelfIn isValue
-  held-value e l = rw (eq-eqb (length bytes) 2080 e, le-leb (numberAt bytes 7) 256 l)
+  module _ (whole : length bytes ≡ 2080) (few : numberAt bytes 7 ≤ 256) where
+    -- a shelf with the numbers, the table and the loss of a value
+    pub held-shelf : {h : Shelf} → h .v ≡ numberAt bytes 0 → h .k ≡ numberAt bytes 1 → h .b ≡ numberAt bytes 2 → h .T ≡ numberAt bytes 3
+        → h .u ≡ numberAt bytes 4 → h .r ≡ numberAt bytes 5 → h .lambda ≡ numberAt bytes 6 → h .table ≡ drop 32 bytes → h .loss ≡ lossOf (numberAt bytes 7)
+        → h ≡ shelfIn bytes
+    unfolding shelfIn isValue
+    held-shelf p₁ p₂ p₃ p₄ p₅ p₆ p₇ p₈ p₉ = rw (eq-eqb (length bytes) 2080 whole, le-leb (numberAt bytes 7) 256 few, ← p₁, ← p₂, ← p₃, ← p₄, ← p₅, ← p₆, ← p₇, ← p₈, ← p₉)
+
+    value-table : shelfIn bytes .table ≡ drop 32 bytes
+    unfolding shelfIn isValue
+    value-table = rw (eq-eqb (length bytes) 2080 whole, le-leb (numberAt bytes 7) 256 few)
 
   -- bytes of another length hold no shelf
   pub value-length : isShelf (shelfIn bytes) ≡ true → length bytes ≡ 2080
@@ -70,6 +59,6 @@ module _ (bytes : List ℕ) where
       (λ e.
       let l = eqb-true (length bytes) 2080 e in
       cases (leb (numberAt bytes 7) 256)
-      (λ q. ap size (sym (held-value l (leb-true (numberAt bytes 7) 256 q))) ∙ omega (arith, length-drop 32 bytes))
+      (λ q. ap length (value-table l (leb-true (numberAt bytes 7) 256 q)) ∙ omega (arith, length-drop 32 bytes))
       (λ q. ap size (sym (other-loss (leb-false (numberAt bytes 7) 256 q))) ∙ empty-table))
       (λ e. ap size (sym (other-length (eqb-false (length bytes) 2080 e))) ∙ empty-table)

@@ -2,7 +2,6 @@ pub mod Copying
 pub mod Numbering
 pub mod Holding
 pub mod Answering
-pub mod Sizing
 pub mod Spotted
 pub mod Starts
 pub mod Bits

@@ -19,7 +19,7 @@ use Rattle.design.proofs.Tests.{shelf-parts}
 use Rattle.placement.proofs.Bounds.{often-most}
 use Rattle.host.specs.Numbers.{numberAt, numbered}
 use Rattle.host.specs.Value.{lossNumber, lossOf, shelfIn, numbersIn, withShelf}
-use Rattle.host.proofs.Holding.{same-shelf, held-value}
+use Rattle.host.proofs.Holding.{held-shelf}
 use Rattle.host.proofs.NumbersBack.{Fit, length-numbered, numbered-at, number-front}
 
 -- ---- the numbers of a shelf fit four bytes each
@@ -58,21 +58,21 @@ module _ (h : Shelf) (ok : isShelf h ≡ true) where
     put-length : length put ≡ 2080
     put-length = length-numbered bytes 0 (numbersIn h) ∙ room
 
-    number-is : (j : ℕ) → j < 8 → numberAt (withShelf bytes h) j ≡ getD (numbersIn h) j 0
+    number-is : (j : ℕ) → j < 8 → getD (numbersIn h) j 0 ≡ numberAt (withShelf bytes h) j
     unfolding withShelf numbersIn
     number-is j l =
-        number-front 32 put (h .table) j (omega (arith, put-length)) (omega arith)
-        ∙ ap (numberAt put) (sym (zero-add j)) ∙ numbered-at bytes 0 (numbersIn h) j numbers-fit (omega arith) (omega arith)
+        sym (number-front 32 put (h .table) j (omega (arith, put-length)) (omega arith)
+        ∙ ap (numberAt put) (sym (zero-add j)) ∙ numbered-at bytes 0 (numbersIn h) j numbers-fit (omega arith) (omega arith))
 
     value-is-long : length (withShelf bytes h) ≡ 2080
     unfolding withShelf
     value-is-long = omega (arith, length-append (take 32 put) (h .table), length-take-le 32 put (omega (arith, put-length)))
 
-    table-is : drop 32 (withShelf bytes h) ≡ h .table
+    table-is : h .table ≡ drop 32 (withShelf bytes h)
     unfolding withShelf
-    table-is = drop-at (take 32 put) (h .table) 32 (length-take-le 32 put (omega (arith, put-length)))
+    table-is = sym (drop-at (take 32 put) (h .table) 32 (length-take-le 32 put (omega (arith, put-length))))
 
-    loss-is : numberAt (withShelf bytes h) 7 ≡ lossNumber (h .loss)
+    loss-is : lossNumber (h .loss) ≡ numberAt (withShelf bytes h) 7
     unfolding numbersIn
     loss-is = number-is 7 (omega arith)
 
@@ -82,7 +82,7 @@ module _ (h : Shelf) (ok : isShelf h ≡ true) where
     put-back =
         let w = shelf-parts h ok in
         let small : numberAt (withShelf bytes h) 7 ≤ 256 = omega (arith, loss-is, loss-most (h .loss) (h .v) (w .loss) (w .limits .v-most)) in
-        sym (held-value (withShelf bytes h) value-is-long small)
-        ∙ same-shelf (number-is 0 (omega arith)) (number-is 1 (omega arith)) (number-is 2 (omega arith)) (number-is 3 (omega arith))
+        sym
+        (held-shelf (withShelf bytes h) value-is-long small (number-is 0 (omega arith)) (number-is 1 (omega arith)) (number-is 2 (omega arith)) (number-is 3 (omega arith))
         (number-is 4 (omega arith)) (number-is 5 (omega arith)) (number-is 6 (omega arith)) table-is
-        (ap lossOf loss-is ∙ loss-back (h .loss))
+        (sym (loss-back (h .loss)) ∙ ap lossOf loss-is))

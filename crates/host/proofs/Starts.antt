@@ -42,22 +42,21 @@ module _ (h : Shelf) (image : List ℕ) (d o : ℕ) where
   v = firstBroken (placeRules h (length image) d o)
 
   -- the empty part is a refusal, any other an accepted call
-  pub place-refused : length (placeShown h image d o) ≡ 0 → (x : Refusal) × (firstBroken (placeRules h (length image) d o) ≡ Refused x)
-  place-refused e = place-empty h image d o .0 (none-is (placeShown h image d o) e)
+  module _ {part : List ℕ} (shown : part ≡ placeShown h image d o) where
+    pub start-refused : length part ≡ 0 → refusedStart ≡ placeStart h (length image) d o
+    unfolding placeStart
+    start-refused e = sym (by-refused _ _ (place-empty h image d o .0 (sym shown ∙ none-is part e) .1))
 
-  pub place-accepted : (length (placeShown h image d o) ≡ 0 → ⊥) → firstBroken (placeRules h (length image) d o) ≡ Accepted
-  place-accepted some = not-refused v (λ x e. some (ap length (place-empty h image d o .1 (x, e))))
+    module _ (some : length part ≡ 0 → ⊥) where
+      place-accepted : v ≡ Accepted
+      place-accepted = not-refused v (λ x e. some (ap length (shown ∙ place-empty h image d o .1 (x, e))))
 
-  pub place-call : (length (placeShown h image d o) ≡ 0 → ⊥) → PlaceCall h image d o
-  place-call some = show-place-accepted h image d o .0 (place-accepted some)
+      pub place-call : PlaceCall h image d o
+      place-call = show-place-accepted h image d o .0 place-accepted
 
-  pub start-refused : length (placeShown h image d o) ≡ 0 → refusedStart ≡ placeStart h (length image) d o
-  unfolding placeStart
-  start-refused e = sym (by-refused _ _ (place-refused e .1))
-
-  pub start-at : (length (placeShown h image d o) ≡ 0 → ⊥) → (d * depth h + o) * unitSize h ≡ placeStart h (length image) d o
-  unfolding placeStart
-  start-at some = sym (by-accepted _ _ (place-accepted some))
+      pub start-at : (d * depth h + o) * unitSize h ≡ placeStart h (length image) d o
+      unfolding placeStart
+      start-at = sym (by-accepted _ _ place-accepted)
 
   -- the U bytes from there on are the part that is shown, and they are in the image
   pub start-shows : firstBroken (placeRules h (length image) d o) ≡ Accepted
@@ -80,52 +79,48 @@ module _ (h : Shelf) (image : List ℕ) (a : ℕ) (other : List ℕ) where
   abbrev unit : ℕ
   unit = unitIn h (stripeOf (layoutIn h) a) (jOf (layoutIn h) a)
 
-  abbrev spot : Spot
-  spot = spotOf (layoutIn h) a
-
-  pub address-refused : length (addressShown h image a other) ≡ 0 → refusedStart ≡ addressStart h (length image) a (length other)
-  unfolding addressStart
-  address-refused e = sym (by-refused _ _ (address-empty h image a other .0 (none-is (addressShown h image a other) e) .1))
-
-  address-accepted : (length (addressShown h image a other) ≡ 0 → ⊥) → verdict ≡ Accepted
-  address-accepted some = not-refused verdict (λ x e. some (ap length (address-empty h image a other .1 (x, e))))
-
-  pub address-call : (length (addressShown h image a other) ≡ 0 → ⊥) → UnitCall h image a other
-  address-call some = unit-accepted h image a other .0 (address-accepted some)
-
-  -- an address that may be shown: from the image exactly where its place may be shown
-  module _ (some : length (addressShown h image a other) ≡ 0 → ⊥) where
-    call : UnitCall h image a other
-    call = address-call some
-
-    place-is : spot .disk * depth h + spot .offset ≡ unit
-    place-is = spot-unit h (call .stored .shelf) a (call .address)
-
-    start-is : addressStart h (length image) a (length other) ≡ cond (present h unit) (unit * unitSize h) secondStart
+  module _ {part : List ℕ} (shown : part ≡ addressShown h image a other) where
+    pub address-refused : length part ≡ 0 → refusedStart ≡ addressStart h (length image) a (length other)
     unfolding addressStart
-    start-is = by-accepted _ refusedStart (address-accepted some)
+    address-refused e = sym (by-refused _ _ (address-empty h image a other .0 (sym shown ∙ none-is part e) .1))
 
-    present-shows : present h unit ≡ true → length (placeShown h image (spot .disk) (spot .offset)) ≡ 0 → ⊥
-    present-shows p e =
-        let here : PlaceCall h image (spot .disk) (spot .offset) =
-        record {
-          stored = call .stored;
-          disk = spot-disk-lt h (call .stored .shelf) a (call .address);
-          offset = spot-offset-lt h (call .stored .shelf) a (call .address);
-          here = ap (present h) place-is ∙ p;
-        } in
-        omega (arith, place-unit h image (spot .disk) (spot .offset) (show-place-accepted h image (spot .disk) (spot .offset) .1 here) .1, pow-pos (h .u))
+    module _ (some : length part ≡ 0 → ⊥) where
+      address-accepted : verdict ≡ Accepted
+      address-accepted = not-refused verdict (λ x e. some (ap length (shown ∙ address-empty h image a other .1 (x, e))))
 
-    pub address-second : length (placeShown h image (spot .disk) (spot .offset)) ≡ 0 → secondStart ≡ addressStart h (length image) a (length other)
-    address-second e =
-        cases (present h unit) (λ p. absurd (present-shows p e))
-        (λ p. sym (start-is ∙ ap (λ t. cond t (unit * unitSize h) secondStart) p))
+      pub address-call : UnitCall h image a other
+      address-call = unit-accepted h image a other .0 address-accepted
 
-    pub address-here : (length (placeShown h image (spot .disk) (spot .offset)) ≡ 0 → ⊥)
-        → (spot .disk * depth h + spot .offset) * unitSize h ≡ addressStart h (length image) a (length other)
-    address-here there =
-        let p : present h unit ≡ true = ap (present h) (sym place-is) ∙ place-call h image (spot .disk) (spot .offset) there .here in
-        ap (λ (n : ℕ). n * unitSize h) place-is ∙ sym (start-is ∙ ap (λ t. cond t (unit * unitSize h) secondStart) p)
+      start-is : addressStart h (length image) a (length other) ≡ cond (present h unit) (unit * unitSize h) secondStart
+      unfolding addressStart
+      start-is = by-accepted _ refusedStart address-accepted
+
+      -- from the image exactly where its place may be shown
+      module _ {spot : Spot} (placed : spot ≡ spotOf (layoutIn h) a) {here : List ℕ} (found : here ≡ placeShown h image (spot .disk) (spot .offset)) where
+        place-is : spot .disk * depth h + spot .offset ≡ unit
+        place-is = rw placed (spot-unit h (address-call .stored .shelf) a (address-call .address))
+
+        present-shows : present h unit ≡ true → length here ≡ 0 → ⊥
+        present-shows p e =
+            let call : PlaceCall h image (spot .disk) (spot .offset) =
+            record {
+              stored = address-call .stored;
+              disk = rw placed (spot-disk-lt h (address-call .stored .shelf) a (address-call .address));
+              offset = rw placed (spot-offset-lt h (address-call .stored .shelf) a (address-call .address));
+              here = ap (present h) place-is ∙ p;
+            } in
+            let whole = place-unit h image (spot .disk) (spot .offset) (show-place-accepted h image (spot .disk) (spot .offset) .1 call) .1 in
+            omega (arith, ap length found, whole, pow-pos (h .u))
+
+        pub address-second : length here ≡ 0 → secondStart ≡ addressStart h (length image) a (length other)
+        address-second e =
+            cases (present h unit) (λ p. absurd (present-shows p e))
+            (λ p. sym (start-is ∙ ap (λ t. cond t (unit * unitSize h) secondStart) p))
+
+        pub address-here : (length here ≡ 0 → ⊥) → (spot .disk * depth h + spot .offset) * unitSize h ≡ addressStart h (length image) a (length other)
+        address-here there =
+            let p : present h unit ≡ true = ap (present h) (sym place-is) ∙ place-call h image (spot .disk) (spot .offset) found there .here in
+            ap (λ (n : ℕ). n * unitSize h) place-is ∙ sym (start-is ∙ ap (λ t. cond t (unit * unitSize h) secondStart) p)
 
   -- the U bytes from there on, or the second buffer, are the part that is shown
   module _ (e : firstBroken (unitRules h (length image) a (length other)) ≡ Accepted) where

@@ -6,16 +6,55 @@ ghost use Rattle.host.specs.Sheets.{sized, sheetSize};
 use crate::value;
 use placement::fast;
 
+struct Sizes {
+    sheet: usize,
+    image: usize,
+    unit: usize,
+    stripes: usize,
+    addresses: usize,
+    offsets: usize,
+}
+
+fn measure(shelf: &[u8]) -> Sizes
+    ensures { λ r. ⌜
+        (r .sheet ≡ sized sheetSize (now (shelf .entry)))
+        × (r .image ≡ sized imageSize (now (shelf .entry)))
+        × (r .unit ≡ sized unitSize (now (shelf .entry)))
+        × (r .stripes ≡ sized (λ h. stripes (layoutIn h)) (now (shelf .entry)))
+        × (r .addresses ≡ sized (λ h. addresses (layoutIn h)) (now (shelf .entry)))
+        × (r .offsets ≡ sized (λ h. offsets (layoutIn h)) (now (shelf .entry))) ⌝ }
+{
+    let taken = value::shelf(shelf);
+    if !taken.is_shelf() {
+        return Sizes {
+            sheet: 0,
+            image: 0,
+            unit: 0,
+            stripes: 0,
+            addresses: 0,
+            offsets: 0,
+        };
+    }
+    let unit = 1 << taken.u;
+    let offsets = fast::offsets(taken);
+    let sheet = 6 + (6 * (taken.b * taken.k) + 7) / 8;
+    let image = taken.v * offsets * unit;
+    Sizes {
+        sheet,
+        image,
+        unit,
+        stripes: fast::stripes(taken),
+        addresses: fast::addresses(taken),
+        offsets,
+    }
+}
+
 // The bytes of the sheet.
 #[no_mangle]
 pub extern "C" fn shqemtuli_sheet_length(shelf: &[u8]) -> usize
     ensures { λ r. ⌜ r ≡ sized sheetSize (now (shelf .entry)) ⌝ }
 {
-    let taken = value::shelf(shelf);
-    if !taken.is_shelf() {
-        return 0;
-    }
-    6 + (6 * (taken.b * taken.k) + 7) / 8
+    measure(shelf).sheet
 }
 
 // The bytes of the image.
@@ -23,11 +62,7 @@ pub extern "C" fn shqemtuli_sheet_length(shelf: &[u8]) -> usize
 pub extern "C" fn shqemtuli_image_size(shelf: &[u8]) -> usize
     ensures { λ r. ⌜ r ≡ sized imageSize (now (shelf .entry)) ⌝ }
 {
-    let taken = value::shelf(shelf);
-    if !taken.is_shelf() {
-        return 0;
-    }
-    taken.v * fast::offsets(taken) * (1 << taken.u)
+    measure(shelf).image
 }
 
 // U, the bytes of a unit.
@@ -35,11 +70,7 @@ pub extern "C" fn shqemtuli_image_size(shelf: &[u8]) -> usize
 pub extern "C" fn shqemtuli_unit_size(shelf: &[u8]) -> usize
     ensures { λ r. ⌜ r ≡ sized unitSize (now (shelf .entry)) ⌝ }
 {
-    let taken = value::shelf(shelf);
-    if !taken.is_shelf() {
-        return 0;
-    }
-    1 << taken.u
+    measure(shelf).unit
 }
 
 // S.
@@ -47,11 +78,7 @@ pub extern "C" fn shqemtuli_unit_size(shelf: &[u8]) -> usize
 pub extern "C" fn shqemtuli_stripes(shelf: &[u8]) -> usize
     ensures { λ r. ⌜ r ≡ sized (λ h. stripes (layoutIn h)) (now (shelf .entry)) ⌝ }
 {
-    let taken = value::shelf(shelf);
-    if !taken.is_shelf() {
-        return 0;
-    }
-    fast::stripes(taken)
+    measure(shelf).stripes
 }
 
 // N.
@@ -59,11 +86,7 @@ pub extern "C" fn shqemtuli_stripes(shelf: &[u8]) -> usize
 pub extern "C" fn shqemtuli_addresses(shelf: &[u8]) -> usize
     ensures { λ r. ⌜ r ≡ sized (λ h. addresses (layoutIn h)) (now (shelf .entry)) ⌝ }
 {
-    let taken = value::shelf(shelf);
-    if !taken.is_shelf() {
-        return 0;
-    }
-    fast::addresses(taken)
+    measure(shelf).addresses
 }
 
 // The units on each disk.
@@ -71,9 +94,5 @@ pub extern "C" fn shqemtuli_addresses(shelf: &[u8]) -> usize
 pub extern "C" fn shqemtuli_offsets(shelf: &[u8]) -> usize
     ensures { λ r. ⌜ r ≡ sized (λ h. offsets (layoutIn h)) (now (shelf .entry)) ⌝ }
 {
-    let taken = value::shelf(shelf);
-    if !taken.is_shelf() {
-        return 0;
-    }
-    fast::offsets(taken)
+    measure(shelf).offsets
 }

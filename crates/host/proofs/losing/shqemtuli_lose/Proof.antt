@@ -1,10 +1,5 @@
 -- `host::shqemtuli_lose` meets its contract: what is given and left is as the verdict says. Assumes nothing.
 use borrow.Author.Needs.{needs}
-use mathlib.Core.Path.{sym, ap, _∙_}
-use Rattle.design.specs.declared.Shelf.{Shelf}
-use Rattle.parity.specs.declared.Losing.{Losing}
-use Rattle.parity.specs.Calls.{lost}
-use Rattle.host.specs.Value.{withShelf}
 use Rattle.host.proofs.Holding.{value-length}
 use Rattle.host.proofs.Answering.{given-refused, given-accepted}
 use Rattle.host.proofs.Changing.{losing-shelf}
@@ -33,10 +28,7 @@ returns : tie.Need-returns
 returns c =
     let at-enum-told2 = c .before in
     let at-lose = at-enum-told2 .before .before in
-    let at-shelf = at-lose .before in
-    let start = at-shelf .before .before .before in
-    let e = at-lose .lose .ensures ∙ ap (λ (h : Shelf). lost h (start .args .disk)) (at-shelf .shelf .ensures) in
-    given-refused _ _ (c .of-verdict .ensures) (ap (λ (x : Losing). x .verdict) e) (at-enum-told2 .enum-told2 .given .1)
+    rw (← at-lose .before .shelf .ensures, ← at-lose .lose .ensures) (given-refused _ _ (c .of-verdict .ensures) (at-enum-told2 .enum-told2 .given .1))
 
 put-requires : tie.Need-put-requires
 put-requires c κs =
@@ -44,8 +36,7 @@ put-requires c κs =
     let at-lose = at-enum-told .before .before in
     let at-shelf = at-lose .before in
     let start = at-shelf .before .before .before in
-    let e = at-lose .lose .ensures ∙ ap (λ (h : Shelf). lost h (start .args .disk)) (at-shelf .shelf .ensures) in
-    value-length _ (losing-shelf _ (start .args .disk) (ap (λ (x : Losing). x .verdict) (sym e) ∙ at-enum-told .enum-told .given .1))
+    value-length (start .args .shelf .now) (rw (← at-shelf .shelf .ensures) (losing-shelf _ _ (at-lose .lose .ensures) (at-enum-told .enum-told .given .1)))
 
 same-length-2 : tie.Need-same-length-2
 same-length-2 c = search needs
@@ -55,11 +46,7 @@ returns-2 c =
     let at-put = c .before .before in
     let at-enum-told = at-put .before .before .before in
     let at-lose = at-enum-told .before .before in
-    let at-shelf = at-lose .before in
-    let start = at-shelf .before .before .before in
-    let e = at-lose .lose .ensures ∙ ap (λ (h : Shelf). lost h (start .args .disk)) (at-shelf .shelf .ensures) in
-    given-accepted _ (ap (λ (x : Losing). x .verdict) e) (at-enum-told .enum-told .given .1)
-    (at-put .put .ensures ∙ ap (λ (x : Losing). withShelf (start .args .shelf .now) (x .shelf)) e)
+    rw (← at-lose .before .shelf .ensures, ← at-lose .lose .ensures) (given-accepted _ (at-enum-told .enum-told .given .1) (at-put .put .ensures))
 
 pub shqemtuli-lose-spec : {M : Type 1} → statement M
 shqemtuli-lose-spec =

@@ -1,8 +1,8 @@
 -- `host::shqemtuli_rebuild` meets its contract: it is told what the call below promises. Assumes nothing.
 use borrow.Author.Needs.{needs}
-use mathlib.Core.Path.{refl, sym}
+use mathlib.Core.Path.{refl}
 use Rattle.host.proofs.Holding.{value-length}
-use Rattle.host.proofs.Answering.{into-other, into-fits, given-refused, given-accepted}
+use Rattle.host.proofs.Answering.{into-other, into-fits, told, given-refused, given-accepted}
 use Rattle.host.proofs.Changing.{rebuilding-shelf, rebuilt-counts}
 use Rattle.host.proofs.losing.shqemtuli_rebuild.Statement.{statement}
 use Rattle.host.proofs.losing.shqemtuli_rebuild.Tie as tie
@@ -47,13 +47,8 @@ returns-2 c =
     let at-rebuild = at-put-counts .before .before .before .before .before .before in
     let at-shelf = at-rebuild .before .before in
     let passed = at-shelf .before .before in
-    let w = given-refused _ _ (c .of-verdict .ensures) refl (at-enum-told2 .enum-told2 .given .1) in
-    into-fits (passed .if1 .left)
-    (record {
-      answer = at-rebuild .rebuild .result;
-      keeps = rw (sym (at-shelf .shelf .ensures)) (at-rebuild .rebuild .ensures);
-      gives = (w .0, w .1, at-put-counts .put-counts .ensures);
-    })
+    let w = given-refused _ _ (c .of-verdict .ensures) (at-enum-told2 .enum-told2 .given .1) in
+    rw (← at-shelf .shelf .ensures) (into-fits (passed .if1 .left) (told _ (at-rebuild .rebuild .ensures) (w .0, w .1, at-put-counts .put-counts .ensures)))
 
 put-requires : tie.Need-put-requires
 put-requires c κs =
@@ -61,7 +56,7 @@ put-requires c κs =
     let at-rebuild = at-enum-told .before .before .before .before .before .before .before .before .before .before in
     let at-shelf = at-rebuild .before .before in
     let start = at-shelf .before .before .before .before .before .before in
-    value-length (start .args .shelf .now) (rw (sym (at-shelf .shelf .ensures)) (rebuilding-shelf (at-rebuild .rebuild .ensures) (at-enum-told .enum-told .given .1)))
+    value-length (start .args .shelf .now) (rw (← at-shelf .shelf .ensures) (rebuilding-shelf (at-rebuild .rebuild .ensures) (at-enum-told .enum-told .given .1)))
 
 same-length-4 : tie.Need-same-length-4
 same-length-4 c = search needs
@@ -80,13 +75,8 @@ returns-3 c =
     let at-rebuild = at-put-counts .before .before .before .before .before .before in
     let at-shelf = at-rebuild .before .before in
     let passed = at-shelf .before .before in
-    let w = given-accepted _ refl (at-enum-told .enum-told .given .1) (at-put .put .ensures) in
-    into-fits (passed .if1 .left)
-    (record {
-      answer = at-rebuild .rebuild .result;
-      keeps = rw (sym (at-shelf .shelf .ensures)) (at-rebuild .rebuild .ensures);
-      gives = (w .0, w .1, at-put-counts .put-counts .ensures);
-    })
+    let w = given-accepted _ (at-enum-told .enum-told .given .1) (at-put .put .ensures) in
+    rw (← at-shelf .shelf .ensures) (into-fits (passed .if1 .left) (told _ (at-rebuild .rebuild .ensures) (w .0, w .1, at-put-counts .put-counts .ensures)))
 
 pub shqemtuli-rebuild-spec : {M : Type 1} → statement M
 shqemtuli-rebuild-spec =

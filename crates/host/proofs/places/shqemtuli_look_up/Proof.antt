@@ -1,8 +1,6 @@
 -- `host::shqemtuli_look_up` meets its contract: what is given and left is as the answer says. Assumes nothing.
 use borrow.Author.Needs.{needs}
-use mathlib.Core.Path.{refl, sym, ap, _∙_}
-use Rattle.design.specs.declared.Shelf.{Shelf}
-use Rattle.placement.specs.Placed.{lookedUp}
+use mathlib.Core.Path.{refl}
 use Rattle.host.proofs.Answering.{into-other, into-fits}
 use Rattle.host.proofs.Spotted.{found-data, found-parity, found-refused}
 use Rattle.host.proofs.places.shqemtuli_look_up.Statement.{statement}
@@ -45,9 +43,7 @@ returns-2 c =
     let at-look-up = at-found .before .before in
     let at-shelf = at-look-up .before in
     let passed = at-shelf .before in
-    let start = passed .before .before .before in
-    let answered = at-look-up .look-up .ensures ∙ ap (λ (h : Shelf). lookedUp h (start .args .disk) (start .args .offset)) (at-shelf .shelf .ensures) in
-    into-fits (passed .if1 .left) (found-data _ (sym answered ∙ at-found .found .given .1) (at-put-three .put-three .ensures))
+    rw (← at-shelf .shelf .ensures, ← at-look-up .look-up .ensures) (into-fits (passed .if1 .left) (found-data _ (at-found .found .given .1) (at-put-three .put-three .ensures)))
 
 same-length-2 : tie.Need-same-length-2
 same-length-2 c = search needs
@@ -59,9 +55,7 @@ returns-3 c =
     let at-look-up = at-found2 .before .before in
     let at-shelf = at-look-up .before in
     let passed = at-shelf .before in
-    let start = passed .before .before .before in
-    let answered = at-look-up .look-up .ensures ∙ ap (λ (h : Shelf). lookedUp h (start .args .disk) (start .args .offset)) (at-shelf .shelf .ensures) in
-    into-fits (passed .if1 .left) (found-parity _ (sym answered ∙ at-found2 .found2 .given .1) (at-put-three2 .put-three2 .ensures))
+    rw (← at-shelf .shelf .ensures, ← at-look-up .look-up .ensures) (into-fits (passed .if1 .left) (found-parity _ (at-found2 .found2 .given .1) (at-put-three2 .put-three2 .ensures)))
 
 returns-4 : tie.Need-returns-4
 returns-4 c =
@@ -69,9 +63,7 @@ returns-4 c =
     let at-look-up = at-found3 .before .before in
     let at-shelf = at-look-up .before in
     let passed = at-shelf .before in
-    let start = passed .before .before .before in
-    let answered = at-look-up .look-up .ensures ∙ ap (λ (h : Shelf). lookedUp h (start .args .disk) (start .args .offset)) (at-shelf .shelf .ensures) in
-    into-fits (passed .if1 .left) (found-refused _ (sym answered ∙ at-found3 .found3 .given .1) (c .number .ensures))
+    rw (← at-shelf .shelf .ensures, ← at-look-up .look-up .ensures) (into-fits (passed .if1 .left) (found-refused _ (at-found3 .found3 .given .1) (c .number .ensures)))
 
 pub shqemtuli-look-up-spec : {M : Type 1} → statement M
 shqemtuli-look-up-spec =

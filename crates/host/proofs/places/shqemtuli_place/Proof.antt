@@ -1,8 +1,6 @@
 -- `host::shqemtuli_place` meets its contract: what is given and left is as the answer says. Assumes nothing.
 use borrow.Author.Needs.{needs}
-use mathlib.Core.Path.{refl, sym, ap, _∙_}
-use Rattle.design.specs.declared.Shelf.{Shelf}
-use Rattle.placement.specs.Placed.{placed}
+use mathlib.Core.Path.{refl}
 use Rattle.host.proofs.Answering.{into-other, into-fits}
 use Rattle.host.proofs.Spotted.{placing-at, placing-refused}
 use Rattle.host.proofs.places.shqemtuli_place.Statement.{statement}
@@ -39,9 +37,7 @@ returns-2 c =
     let at-place = at-placing .before .before in
     let at-shelf = at-place .before in
     let passed = at-shelf .before in
-    let start = passed .before .before .before in
-    let answered = at-place .place .ensures ∙ ap (λ (h : Shelf). placed h (start .args .address)) (at-shelf .shelf .ensures) in
-    into-fits (passed .if1 .left) (placing-at _ (sym answered ∙ at-placing .placing .given .1) (at-put-spot .put-spot .ensures))
+    rw (← at-shelf .shelf .ensures, ← at-place .place .ensures) (into-fits (passed .if1 .left) (placing-at _ (at-placing .placing .given .1) (at-put-spot .put-spot .ensures)))
 
 returns-3 : tie.Need-returns-3
 returns-3 c =
@@ -49,9 +45,7 @@ returns-3 c =
     let at-place = at-placing2 .before .before in
     let at-shelf = at-place .before in
     let passed = at-shelf .before in
-    let start = passed .before .before .before in
-    let answered = at-place .place .ensures ∙ ap (λ (h : Shelf). placed h (start .args .address)) (at-shelf .shelf .ensures) in
-    into-fits (passed .if1 .left) (placing-refused _ (sym answered ∙ at-placing2 .placing2 .given .1) (c .number .ensures))
+    rw (← at-shelf .shelf .ensures, ← at-place .place .ensures) (into-fits (passed .if1 .left) (placing-refused _ (at-placing2 .placing2 .given .1) (c .number .ensures)))
 
 pub shqemtuli-place-spec : {M : Type 1} → statement M
 shqemtuli-place-spec =

@@ -1,14 +1,7 @@
 -- `host::shqemtuli_run` meets its contract: what is given and left is as the verdict says. Assumes nothing.
 use borrow.Author.Needs.{needs}
-use mathlib.Core.Path.{refl, sym, ap, _∙_}
-use Prim.Native.Nat.{_/_}
-use lib.ListN.{length}
-use Rattle.design.specs.declared.Shelf.{Shelf}
-use Rattle.design.specs.Refusals.{firstBroken}
-use Rattle.placement.specs.Layout.{layoutIn}
-use Rattle.placement.specs.Placed.{runRules}
+use mathlib.Core.Path.{refl, sym, _∙_}
 use Rattle.placement.proofs.Running.{accepted-runs}
-use Rattle.host.specs.Places.{spotsInto}
 use Rattle.host.proofs.Answering.{given-refused, given-accepted}
 use Rattle.host.proofs.places.shqemtuli_run.Statement.{statement}
 use Rattle.host.proofs.places.shqemtuli_run.Tie as tie
@@ -37,10 +30,8 @@ returns-2 c =
     let at-run-verdict = at-enum-told2 .before .before in
     let at-shelf = at-run-verdict .before in
     let passed = at-shelf .before in
-    let start = passed .before .before .before in
-    let judged = at-run-verdict .run-verdict .ensures ∙ ap (λ (h : Shelf). firstBroken (runRules h (start .args .first) (length (start .args .out .now) / 16))) (at-shelf .shelf .ensures) in
     record {
-      fits = λ e. given-refused _ _ (c .of-verdict .ensures) judged (at-enum-told2 .enum-told2 .given .1);
+      fits = λ e. rw (← at-shelf .shelf .ensures, ← at-run-verdict .run-verdict .ensures) (given-refused _ _ (c .of-verdict .ensures) (at-enum-told2 .enum-told2 .given .1));
       other = λ ne. absurd (ne (passed .if1 .left));
     }
 
@@ -62,12 +53,8 @@ returns-3 c =
     let at-run-verdict = at-enum-told .before .before in
     let at-shelf = at-run-verdict .before in
     let passed = at-shelf .before in
-    let start = passed .before .before .before in
-    let args = start .args in
-    let judged = at-run-verdict .run-verdict .ensures ∙ ap (λ (h : Shelf). firstBroken (runRules h (start .args .first) (length (start .args .out .now) / 16))) (at-shelf .shelf .ensures) in
-    let left = at-put-run .put-run .ensures ∙ ap (λ (h : Shelf). spotsInto (layoutIn h) (args .first) 0 (length (args .out .now) / 16) (args .out .now)) (at-shelf .shelf .ensures) in
     record {
-      fits = λ e. given-accepted _ judged (at-enum-told .enum-told .given .1) left;
+      fits = λ e. rw (← at-shelf .shelf .ensures, ← at-run-verdict .run-verdict .ensures) (given-accepted _ (at-enum-told .enum-told .given .1) (at-put-run .put-run .ensures));
       other = λ ne. absurd (ne (passed .if1 .left));
     }
 

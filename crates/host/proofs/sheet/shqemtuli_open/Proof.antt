@@ -1,8 +1,6 @@
 -- `host::shqemtuli_open` meets its contract: what is given and left is as the verdict says. Assumes nothing.
 use borrow.Author.Needs.{needs}
-use mathlib.Core.Path.{refl, ap, _∙_}
-use Rattle.design.specs.declared.Opened.{Opened}
-use Rattle.host.specs.Value.{withShelf}
+use mathlib.Core.Path.{refl}
 use Rattle.host.proofs.Answering.{into-other, into-fits, given-refused, given-accepted}
 use Rattle.host.proofs.sheet.shqemtuli_open.Statement.{statement}
 use Rattle.host.proofs.sheet.shqemtuli_open.Tie as tie
@@ -27,8 +25,7 @@ returns-2 c =
     let at-enum-told2 = c .before in
     let at-open = at-enum-told2 .before .before in
     let passed = at-open .before in
-    let judged = ap (λ (x : Opened). x .verdict) (at-open .«open» .ensures) in
-    into-fits (passed .if1 .left) (given-refused _ _ (c .of-verdict .ensures) judged (at-enum-told2 .enum-told2 .given .1))
+    rw (← at-open .«open» .ensures) (into-fits (passed .if1 .left) (given-refused _ _ (c .of-verdict .ensures) (at-enum-told2 .enum-told2 .given .1)))
 
 put-requires : tie.Need-put-requires
 put-requires c κs = search needs
@@ -42,11 +39,7 @@ returns-3 c =
     let at-enum-told = at-put .before .before .before in
     let at-open = at-enum-told .before .before in
     let passed = at-open .before in
-    let start = passed .before .before .before in
-    let e = at-open .«open» .ensures in
-    into-fits (passed .if1 .left)
-    (given-accepted _ (ap (λ (x : Opened). x .verdict) e) (at-enum-told .enum-told .given .1)
-    (at-put .put .ensures ∙ ap (λ (x : Opened). withShelf (start .args .out .now) (x .shelf)) e))
+    rw (← at-open .«open» .ensures) (into-fits (passed .if1 .left) (given-accepted _ (at-enum-told .enum-told .given .1) (at-put .put .ensures)))
 
 pub shqemtuli-open-spec : {M : Type 1} → statement M
 shqemtuli-open-spec =

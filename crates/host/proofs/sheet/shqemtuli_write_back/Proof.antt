@@ -1,7 +1,6 @@
 -- `host::shqemtuli_write_back` meets its contract: the answer's number, by its two arms. Assumes nothing.
 use borrow.Author.Needs.{needs}
-use mathlib.Core.Path.{sym}
-use Rattle.host.proofs.Answering.{back-length, back-refused}
+use Rattle.host.proofs.Answering.{told, back-length, back-refused}
 use Rattle.host.proofs.sheet.shqemtuli_write_back.Statement.{statement}
 use Rattle.host.proofs.sheet.shqemtuli_write_back.Tie as tie
 
@@ -27,11 +26,7 @@ returns : tie.Need-returns
 returns c =
     let at-write-back = c .before .before .before .before in
     let at-shelf = at-write-back .before .before in
-    record {
-      answer = at-write-back .write-back .result;
-      keeps = rw (sym (at-shelf .shelf .ensures)) (at-write-back .write-back .ensures);
-      gives = back-length (c .enum-told .given .1);
-    }
+    rw (← at-shelf .shelf .ensures) (told _ (at-write-back .write-back .ensures) (back-length (c .enum-told .given .1)))
 
 same-length-2 : tie.Need-same-length-2
 same-length-2 c = search needs
@@ -41,11 +36,7 @@ returns-2 c =
     let at-written = c .before .before in
     let at-write-back = at-written .before .before .before .before in
     let at-shelf = at-write-back .before .before in
-    record {
-      answer = at-write-back .write-back .result;
-      keeps = rw (sym (at-shelf .shelf .ensures)) (at-write-back .write-back .ensures);
-      gives = back-refused (at-written .written .given .1) (c .number .ensures);
-    }
+    rw (← at-shelf .shelf .ensures) (told _ (at-write-back .write-back .ensures) (back-refused (at-written .written .given .1) (c .number .ensures)))
 
 pub shqemtuli-write-back-spec : {M : Type 1} → statement M
 shqemtuli-write-back-spec =

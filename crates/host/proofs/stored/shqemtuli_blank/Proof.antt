@@ -1,6 +1,6 @@
 -- `host::shqemtuli_blank` meets its contract: it is told what the call below promises. Assumes nothing.
 use borrow.Author.Needs.{needs}
-use mathlib.Core.Path.{sym}
+use Rattle.host.proofs.Answering.{told}
 use Rattle.host.proofs.stored.shqemtuli_blank.Statement.{statement}
 use Rattle.host.proofs.stored.shqemtuli_blank.Tie as tie
 
@@ -20,11 +20,7 @@ returns : tie.Need-returns
 returns c =
     let at-blank = c .before .before .before in
     let at-shelf = at-blank .before .before in
-    record {
-      answer = at-blank .blank .result;
-      keeps = rw (sym (at-shelf .shelf .ensures)) (at-blank .blank .ensures);
-      gives = c .of-verdict .ensures;
-    }
+    rw (← at-shelf .shelf .ensures) (told _ (at-blank .blank .ensures) (c .of-verdict .ensures))
 
 pub shqemtuli-blank-spec : {M : Type 1} → statement M
 shqemtuli-blank-spec =

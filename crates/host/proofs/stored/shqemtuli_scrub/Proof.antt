@@ -1,12 +1,6 @@
 -- `host::shqemtuli_scrub` meets its contract: the count is put, and the number given. Assumes nothing.
 use borrow.Author.Needs.{needs}
-use mathlib.Core.Path.{refl, ap, _∙_}
-use mathlib.Core.List.{[], _∷_}
-use Rattle.design.specs.declared.Shelf.{Shelf}
-use Rattle.parity.specs.declared.Scrubbing.{Scrubbing}
-use Rattle.parity.specs.Calls.{scrubbed}
-use Rattle.host.specs.Numbers.{numbered}
-use Rattle.host.specs.Answers.{numberOf}
+use mathlib.Core.Path.{refl}
 use Rattle.host.proofs.Numbering.{numbered-none, numbered-put}
 use Rattle.host.proofs.Answering.{into-other, into-fits}
 use Rattle.host.proofs.stored.shqemtuli_scrub.Statement.{statement}
@@ -37,13 +31,9 @@ returns-2 c =
     let at-shelf = at-scrub .before in
     let passed = at-shelf .before in
     let start = passed .before .before .before .before in
-    let args = start .args in
-    let e = at-scrub .scrub .ensures ∙ ap (λ (h : Shelf). scrubbed h (args .image .now)) (at-shelf .shelf .ensures) in
-    into-fits (passed .if1 .left) (
-      c .of-verdict .ensures ∙ ap (λ (x : Scrubbing). numberOf (x .verdict)) e,
-      numbered-put (args .out .now) 0 _ _ (at-put .put .ensures) (numbered-none (args .out .now) 0) refl
-          ∙ ap (λ (x : Scrubbing). numbered (args .out .now) 0 (x .wrong ∷ [])) e,
-    )
+    let out = start .args .out .now in
+    let wrong = numbered-put out 0 _ _ (at-put .put .ensures) (numbered-none out 0) refl in
+    rw (← at-shelf .shelf .ensures, ← at-scrub .scrub .ensures) (into-fits (passed .if1 .left) (c .of-verdict .ensures, wrong))
 
 pub shqemtuli-scrub-spec : {M : Type 1} → statement M
 shqemtuli-scrub-spec =

@@ -3,7 +3,7 @@ use borrow.Author.Needs.{needs}
 use mathlib.Core.Path.{ap, _∙_}
 use native.Mathlib.Omega.{arith}
 use Rattle.host.specs.Value.{lossOf}
-use Rattle.host.proofs.Holding.{same-shelf, other-length, other-loss, held-value}
+use Rattle.host.proofs.Holding.{other-length, other-loss, held-shelf}
 use Rattle.host.proofs.value.shelf.Statement.{statement}
 use Rattle.host.proofs.value.shelf.Tie as tie
 
@@ -63,10 +63,10 @@ returns-3 c =
     let at-get = passed2 .before in
     let passed = at-get .before in
     let lost = at-get .get .ensures in
-    same-shelf (at-get2 .get2 .ensures) (at-get3 .get3 .ensures) (at-get4 .get4 .ensures) (at-get5 .get5 .ensures)
+    held-shelf _ (passed .if1 .left) (omega (arith, lost, passed2 .if2 .left))
+    (at-get2 .get2 .ensures) (at-get3 .get3 .ensures) (at-get4 .get4 .ensures) (at-get5 .get5 .ensures)
     (at-get6 .get6 .ensures) (at-get7 .get7 .ensures) (c .get8 .ensures)
     (at-table .table .ensures) (at-loss-of .loss-of .ensures ∙ ap lossOf lost)
-    ∙ held-value _ (passed .if1 .left) (omega (arith, lost, passed2 .if2 .left))
 
 pub shelf-spec : {M : Type 1} → statement M
 shelf-spec =
