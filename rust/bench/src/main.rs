@@ -20,7 +20,7 @@ fn main() {
         eprintln!(
             "Not measured: this machine is not x86-64, so the library runs under an emulator,"
         );
-        eprintln!("and its times say nothing.");
+        eprintln!("and its times say nothing. tools/bench measures the same code compiled for it.");
         std::process::exit(2);
     }
     println!(

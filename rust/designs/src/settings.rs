@@ -31,9 +31,10 @@ pub fn seeded(test: &str) -> Random {
 /// How many rounds each test does: SHQEMTULI_ROUNDS, or 5, or 1 where the library, which is x86-64 code, runs under an
 /// emulator.
 pub fn rounds() -> u64 {
+    let native = cfg!(target_arch = "x86_64") || std::env::var_os("SHQEMTULI_LIB").is_some();
     match std::env::var("SHQEMTULI_ROUNDS") {
         Ok(number) => number.parse().expect("SHQEMTULI_ROUNDS is a number"),
-        Err(_) if cfg!(target_arch = "x86_64") => 5,
+        Err(_) if native => 5,
         Err(_) => 1,
     }
 }
