@@ -14,7 +14,7 @@ use Rattle.design.specs.declared.Verdict.the-variants.{Accepted, Refused
 use Rattle.design.specs.Count.{every}
 use Rattle.design.specs.Refusals.{Rule, firstBroken}
 use Rattle.design.specs.Tuples.{Design, inTable, Different, holds, before, shared, disksBelow, noneTwice, disksEven, pairsEven}
-use Rattle.design.specs.Tally.{Tallied}
+use Rattle.design.specs.inner.Tally.{Tallied}
 use Rattle.design.specs.Sheet.{editionOf, vOf, kOf, bOf, TOf, uOf, sheetLength, tableOf, withinLimits, fillingZero, sheetRules, shelfOf, openedBy, opened, HeaderRead}
 use Rattle.design.proofs.Tests.{below-flat, below-at, twice}
 use Rattle.design.proofs.Design.{shared-self}

@@ -12,7 +12,7 @@ use lib.Seq.{getD-set-same, getD-set-other}
 use borrow.Author.Tests.{eq-eqb, eqb-true, eqb-false}
 use Rattle.design.specs.Count.{count, every}
 use Rattle.design.specs.Tuples.{Design, inTable, Different, has, holds, shared, disksEven, pairsEven}
-use Rattle.design.specs.Tally.{AddedRow, AddedTuple, Tallied}
+use Rattle.design.specs.inner.Tally.{AddedRow, AddedTuple, Tallied}
 use Rattle.design.proofs.Counting.{decided, both, both-of, alike, every-ext, count-le, count-ext}
 use Rattle.design.proofs.Design.{has-once, shared-self}
 use Rattle.design.proofs.Sums.{sum, sum-next, sum-ext, sum-const, sum-mul, sum-le, count-next, count-sum, count-both}

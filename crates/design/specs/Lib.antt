@@ -1,6 +1,6 @@
 pub mod Count
 pub mod Refusals
 pub mod Tuples
-pub mod Tally
 pub mod Sheet
 pub mod Shelf
+pub mod inner

@@ -5,7 +5,7 @@ ghost use lib.Dec.{eqb};
 ghost use lib.ListN.{length, getD};
 ghost use Rattle.design.specs.Count.{every};
 ghost use Rattle.design.specs.Tuples.{inTable, Different};
-ghost use Rattle.design.specs.Tally.{AddedRow, AddedTuple, Tallied};
+ghost use Rattle.design.specs.inner.Tally.{AddedRow, AddedTuple, Tallied};
 
 // Adds one at (d, e) for each disk e of the tuple of k entries from `from` on.
 fn tally_disk(table: &[u8; 2048], from: usize, k: usize, d: usize, counts: &mut [u16; 4096])

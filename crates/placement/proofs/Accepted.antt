@@ -1,5 +1,5 @@
 -- When placing and looking up are accepted, and what they give then; the rules of each call rise. Assumes nothing.
-use mathlib.Core.Path.{_≡_, refl}
+use mathlib.Core.Path.{_≡_, refl, ap}
 use mathlib.Core.Logic.{_⊎_, inl, inr}
 use mathlib.Core.Bool.{Bool, true, false, _&&_}
 use mathlib.Core.List.{[], _∷_}
@@ -10,6 +10,7 @@ use borrow.Author.Tests.{lt-ltb, ltb-true, le-ltb}
 use Rattle.design.specs.declared.Shelf.{Shelf}
 use Rattle.design.specs.declared.Refusal.{Refusal}
 use Rattle.design.specs.declared.Refusal.the-variants.{NotAShelf, OutOfRange}
+use Rattle.design.specs.declared.Verdict.{Verdict}
 use Rattle.design.specs.declared.Verdict.the-variants.{Accepted, Refused}
 use Rattle.design.specs.Refusals.{number, firstBroken}
 use Rattle.design.specs.Shelf.{isShelf, shelfRule}
@@ -73,7 +74,7 @@ pub record Places (h : Shelf) (a : ℕ) (x : Spot) : Type 0 where
 module _ (h : Shelf) (a : ℕ) where
   pub placed-at : isShelf h ≡ true → a < addresses (layoutIn h) → placed h a ≡ Placing.At (spotOf (layoutIn h) a)
   unfolding placed placeRules placedBy
-  placed-at e l = rw (accept h e (lt-ltb a (addresses (layoutIn h)) l))
+  placed-at e l = ap (λ (x : Verdict). placedBy x h a) (accept h e (lt-ltb a (addresses (layoutIn h)) l))
 
   pub placed-not-a-shelf : isShelf h ≡ false → placed h a ≡ Placing.Refused NotAShelf
   unfolding placed placeRules placedBy

@@ -1,19 +1,21 @@
 -- A shelf's table entry by entry and tuple by tuple: as no tuple has a disk twice, a disk stands in as many entries as tuples.
 -- Assumes nothing.
 use mathlib.Core.Path.{_≡_, sym, ap, _∙_}
+use mathlib.Core.Logic.{_≢_}
 use mathlib.Core.Bool.{Bool, true, cond}
 use mathlib.Core.List.{List}
-use Prim.Native.Nat.{ℕ, _+_, _*_, _/_, _%_, _≤_, _<_}
+use Prim.Native.Nat.{ℕ, suc, _+_, _*_, _/_, _%_, _≤_, _<_}
 use native.Mathlib.Nat.{div-add-mod', mod-lt, div-lt-iff-lt-mul}
+use native.Mathlib.Numerals.{add-one}
 use native.Mathlib.Omega.{arith}
 use lib.Dec.{eqb}
 use lib.ListN.{getD}
-use borrow.Author.Tests.{eq-eqb, eqb-true}
+use borrow.Author.Tests.{eq-eqb, ne-eqb, eqb-true}
 use Rattle.design.specs.declared.Shelf.{Shelf}
 use Rattle.design.specs.Count.{count, nth}
 use Rattle.design.specs.Tuples.{holds, before}
 use Rattle.design.specs.Shelf.{designIn, isShelf}
-use Rattle.design.proofs.Counting.{fails, count-add, count-none, Nth, nth-is, nth-count}
+use Rattle.design.proofs.Counting.{fails, count-true, count-false, count-add, count-none, Nth, nth-is, nth-count}
 use Rattle.design.proofs.Sums.{sum-ext, count-sum}
 use Rattle.design.proofs.Design.{has-once}
 use Rattle.placement.specs.Layout.{layoutIn, tupleAt, stripeAt, positionAt}
@@ -24,6 +26,13 @@ use Rattle.placement.proofs.Rows.{count-rows}
 -- entry i is disk d
 abbrev pub isDisk : List ℕ → ℕ → ℕ → Bool
 isDisk table d i = eqb (getD table i 0) d
+
+-- a loop's step: entry i is counted, or passed over
+pub times-counted : (table : List ℕ) (d i : ℕ) → getD table i 0 ≡ d → count (isDisk table d) (i + 1) ≡ suc (count (isDisk table d) i)
+times-counted table d i e = rw add-one (count-true (isDisk table d) i (eq-eqb _ _ e))
+
+pub times-passed : (table : List ℕ) (d i : ℕ) → getD table i 0 ≢ d → count (isDisk table d) (i + 1) ≡ count (isDisk table d) i
+times-passed table d i ne = rw add-one (count-false (isDisk table d) i (ne-eqb _ _ ne))
 
 module _ (h : Shelf) (e : isShelf h ≡ true) where
   E : Even (layoutIn h)

@@ -6,7 +6,7 @@ ghost use lib.Dec.{eqb};
 ghost use lib.ListN.{getD};
 ghost use Rattle.design.specs.Count.{count, nth};
 ghost use Rattle.design.specs.Shelf.{isShelf};
-ghost use Rattle.placement.specs.Layout.{layoutIn, stripes, addresses, offsets, splitOf, SplitIn, placeIn, placeOf};
+ghost use Rattle.placement.specs.Layout.{layoutIn, stripes, addresses, offsets, splitOf, SplitIn, placeIn};
 ghost use Rattle.placement.specs.Placed.{spotOf, standsAt};
 use crate::LookUp;
 use crate::Spot;
@@ -83,14 +83,6 @@ pub fn place_in(shelf: Shelf, at: Split, position: usize) -> Place
         disk: disk as usize,
         offset,
     }
-}
-
-// The place of a position of a stripe.
-pub fn place_of(shelf: Shelf, stripe: usize, position: usize) -> Place
-    requires { ⌜ (isShelf shelf ≡ true) × (stripe < stripes (layoutIn shelf)) × (position < shelf .k) ⌝ }
-    ensures { λ r. ⌜ r ≡ placeOf (layoutIn shelf) stripe position ⌝ }
-{
-    place_in(shelf, split_of(shelf.k, shelf.b, stripe), position)
 }
 
 // The places of an address and of its stripe's parity.

@@ -9,7 +9,7 @@ add-spot : tie.Need-add-spot
 add-spot c = omega (arith, c .pre .1, bounds (c .args .shelf) (c .pre .0) .addresses)
 
 spot-requires : tie.Need-spot-requires
-spot-requires c κs = search needs
+spot-requires c κs = c .pre
 
 returns : tie.Need-returns
 returns c = search needs

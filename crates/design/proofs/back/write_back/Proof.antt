@@ -40,7 +40,7 @@ returns-2 c =
     back-other-buffer (args .shelf) (args .buffer .now) (shelf (c .before .before .before)) (omega (arith, c .before .sheet-length .ensures))
 
 slice-relend-prefix-write-sheet : tie.Need-slice-relend-prefix-write-sheet
-slice-relend-prefix-write-sheet c = search needs
+slice-relend-prefix-write-sheet c = omega arith
 
 -- the part that is lent has the sheet's length
 part-length : (c : tie.After-write-sheet-arg)

@@ -2,11 +2,14 @@
 use borrow.Author.Needs.{needs}
 use borrow.Author.Tests.{not-true, not-false, le-leb, lt-leb, eq-eqb, ne-eqb}
 use mathlib.Core.Path.{_≡_, sym, ap₂, _∙_}
+use mathlib.Core.Bool.{true}
 use mathlib.Core.List.{List}
 use Prim.Native.Nat.{ℕ, _*_}
+use lib.Dec.{leb, eqb}
+use lib.ListN.{length}
 use native.Mathlib.Omega.{arith}
 use Rattle.design.specs.declared.reader.Header.{Header}
-use Rattle.design.specs.Sheet.{sheetLength, Limits, vOf, kOf, bOf, TOf, uOf, withinLimits}
+use Rattle.design.specs.Sheet.{sheetLength, Limits, editionOf, vOf, kOf, bOf, TOf, uOf, withinLimits}
 use Rattle.design.proofs.Tests.{limits}
 use Rattle.design.proofs.Opening.{short, other-edition, outside-limits, other-length, limits-read}
 use Rattle.design.proofs.read.open.Statement.{statement}
@@ -46,6 +49,13 @@ header c = read c .read-header .result
 abbrev sheet : tie.After-within-limits → List ℕ
 sheet c = read c .before .before .before .args .sheet .now
 
+-- it is long enough, and of the edition asked
+long : (c : tie.After-within-limits) → leb 6 (length (sheet c)) ≡ true
+long c = le-leb _ _ (read c .before .if1 .left)
+
+edition : (c : tie.After-within-limits) → eqb (editionOf (sheet c)) 1 ≡ true
+edition c = eq-eqb _ _ (sym (read c .read-header .ensures .0) ∙ c .before .if2 .left)
+
 tested : (c : tie.After-within-limits) → let s = sheet c in c .within-limits .result ≡ withinLimits (vOf s) (kOf s) (bOf s) (TOf s) (uOf s)
 tested c =
     let n = read c .read-header .ensures in
@@ -54,10 +64,7 @@ tested c =
 returns-3 : tie.Need-returns-3
 returns-3 c =
     let w = c .before .before in
-    let n = read w in
-    c .refused3 .ensures
-    ∙ outside-limits _ (le-leb _ _ (n .before .if1 .left)) (eq-eqb _ _ (sym (n .read-header .ensures .0) ∙ w .before .if2 .left))
-    (sym (tested w) ∙ not-true _ (c .before .if3 .taken))
+    c .refused3 .ensures ∙ outside-limits _ (long w) (edition w) (sym (tested w) ∙ not-true _ (c .before .if3 .taken))
 
 within : (c : tie.Else3) → let h = header (c .before) in Limits (h .v) (h .k) (h .b) (h .T) (h .u)
 within c = limits _ _ _ _ _ .0 (sym (c .before .within-limits .ensures) ∙ not-false _ (c .if3 .left))
@@ -75,21 +82,19 @@ returns-4 : tie.Need-returns-4
 returns-4 c =
     let l = c .before .before in
     let w = l .before .before in
-    let n = read w in
+    let h = read w .read-header .ensures in
     c .refused4 .ensures
-    ∙ other-length _ (le-leb _ _ (n .before .if1 .left)) (eq-eqb _ _ (sym (n .read-header .ensures .0) ∙ w .before .if2 .left))
-    (sym (tested w) ∙ not-false _ (l .before .if3 .left))
-    (ne-eqb _ _ (λ q. c .before .if4 .taken (q ∙ sym (l .sheet-length .ensures ∙ ap₂ (λ (b k : ℕ). sheetLength (b * k)) (n .read-header .ensures .3) (n .read-header .ensures .2)))))
+    ∙ other-length _ (long w) (edition w) (sym (tested w) ∙ not-false _ (l .before .if3 .left))
+    (ne-eqb _ _ (λ q. c .before .if4 .taken (q ∙ sym (l .sheet-length .ensures ∙ ap₂ (λ (b k : ℕ). sheetLength (b * k)) (h .3) (h .2)))))
 
 open-table-requires : tie.Need-open-table-requires
 open-table-requires c κs =
     let l = c .before in
     let w = l .before .before in
-    let n = read w in
-    let h = n .read-header .ensures in
+    let h = read w .read-header .ensures in
     record {
-      long = le-leb _ _ (n .before .if1 .left);
-      edition = eq-eqb _ _ (sym (h .0) ∙ w .before .if2 .left);
+      long = long w;
+      edition = edition w;
       limits = sym (w .within-limits .ensures) ∙ not-false _ (l .before .if3 .left);
       exact = c .if4 .left ∙ l .sheet-length .ensures;
       v-is = h .1;

@@ -30,26 +30,24 @@ disks-below-requires c κs = within (c .before .before .before) .places
 refused-requires : tie.Need-refused-requires
 refused-requires c κs = search needs
 
+abbrev design : tie.Start → Design
+design c = readDesign (c .args .sheet .now) (c .args .v) (c .args .k) (c .args .b)
+
+below-tested : (c : tie.After-disks-below) → disksBelow (design (c .before .before .before .before)) ≡ c .disks-below .result
+below-tested c = sym (below-read _ _ _ _ _ (c .before .before .table-of .ensures) (c .disks-below .ensures))
+
 returns : tie.Need-returns
 returns c =
     let d = c .before .before in
-    let s = d .before .before .before .before in
-    c .refused .ensures
-    ∙ disk-outside _ _ _ _ _ _ (s .pre)
-    (sym (below-read _ _ _ _ _ (d .before .before .table-of .ensures) (d .disks-below .ensures)) ∙ not-true _ (c .before .if1 .taken))
+    c .refused .ensures ∙ disk-outside _ _ _ _ _ _ (d .before .before .before .before .pre) (below-tested d ∙ not-true _ (c .before .if1 .taken))
 
 -- ---- rules 5, 6 and 7 are kept
 
 abbrev start : tie.Else1 → tie.Start
 start c = c .before .before .before .before .before
 
-abbrev design : tie.Start → Design
-design c = readDesign (c .args .sheet .now) (c .args .v) (c .args .k) (c .args .b)
-
 below : (c : tie.Else1) → disksBelow (design (start c)) ≡ true
-below c =
-    let d = c .before in
-    sym (below-read _ _ _ _ _ (d .before .before .table-of .ensures) (d .disks-below .ensures)) ∙ not-false _ (c .if1 .left)
+below c = below-tested (c .before) ∙ not-false _ (c .if1 .left)
 
 none-twice-requires : tie.Need-none-twice-requires
 none-twice-requires c κs = within (c .before .before .before .before .before .before) .places
@@ -57,19 +55,17 @@ none-twice-requires c κs = within (c .before .before .before .before .before .b
 refused-requires-2 : tie.Need-refused-requires-2
 refused-requires-2 c κs = search needs
 
+once-tested : (c : tie.After-none-twice) → noneTwice (design (start (c .before .before))) ≡ c .none-twice .result
+once-tested c = sym (once-read _ _ _ _ _ (c .before .before .before .before .before .table-of .ensures) (c .none-twice .ensures))
+
 returns-2 : tie.Need-returns-2
 returns-2 c =
     let d = c .before .before in
     let e = d .before .before in
-    let t = e .before .before .before in
-    c .refused2 .ensures
-    ∙ disk-twice _ _ _ _ _ _ (t .before .before .pre) (below e)
-    (sym (once-read _ _ _ _ _ (t .table-of .ensures) (d .none-twice .ensures)) ∙ not-true _ (c .before .if2 .taken))
+    c .refused2 .ensures ∙ disk-twice _ _ _ _ _ _ (start e .pre) (below e) (once-tested d ∙ not-true _ (c .before .if2 .taken))
 
 once : (c : tie.Else2) → noneTwice (design (start (c .before .before .before))) ≡ true
-once c =
-    let d = c .before in
-    sym (once-read _ _ _ _ _ (d .before .before .before .before .before .table-of .ensures) (d .none-twice .ensures)) ∙ not-false _ (c .if2 .left)
+once c = once-tested (c .before) ∙ not-false _ (c .if2 .left)
 
 filling-zero-requires : tie.Need-filling-zero-requires
 filling-zero-requires c κs =
@@ -117,11 +113,12 @@ lambda-counted c =
     let e = first (c .before .before) in
     lambda-read _ _ _ _ _ (e .before .before .before .table-of .ensures) (within (start e) .v-most) (c .tally .result) (c .tally .ensures)
 
-disks-tested : (c : tie.After-disks-even) → c .disks-even .result ≡ disksEven (design (start (first (c .before .before .before .before)))) (getD (c .before .before .tally .result) 0 0)
+disks-tested : (c : tie.After-disks-even) → (let D = design (start (first (c .before .before .before .before))) in disksEven D (before D (D .b) 0)) ≡ c .disks-even .result
 disks-tested c =
     let n = c .before .before in
     let e = first (n .before .before) in
-    disks-read _ _ _ _ _ (e .before .before .before .table-of .ensures) (within (start e) .v-most) (n .tally .result) (n .tally .ensures) _ (c .disks-even .ensures)
+    ap (disksEven (design (start e))) (sym (r-counted n))
+    ∙ sym (disks-read _ _ _ _ _ (e .before .before .before .table-of .ensures) (within (start e) .v-most) (n .tally .result) (n .tally .ensures) _ (c .disks-even .ensures))
 
 array-read-r : tie.Need-array-read-r
 array-read-r c = search needs
@@ -138,16 +135,12 @@ refused-requires-4 c κs = search needs
 returns-4 : tie.Need-returns-4
 returns-4 c =
     let d = c .before .before in
-    let n = d .before .before in
-    let z = n .before .before in
+    let z = d .before .before .before .before in
     c .refused4 .ensures
-    ∙ disks-uneven _ _ _ _ _ _ (start (first z) .pre) (below (first z)) (once (z .before .before)) (zero z)
-    (ap (disksEven (design (start (first z)))) (sym (r-counted n)) ∙ sym (disks-tested d) ∙ not-true _ (c .before .if4 .taken))
+    ∙ disks-uneven _ _ _ _ _ _ (start (first z) .pre) (below (first z)) (once (z .before .before)) (zero z) (disks-tested d ∙ not-true _ (c .before .if4 .taken))
 
 even : (c : tie.Else4) → let D = design (start (first (c .before .before .before .before .before))) in disksEven D (before D (D .b) 0) ≡ true
-even c =
-    let n = c .before .before .before in
-    ap (disksEven (design (start (first (n .before .before))))) (sym (r-counted n)) ∙ sym (disks-tested (c .before)) ∙ not-false _ (c .if4 .left)
+even c = disks-tested (c .before) ∙ not-false _ (c .if4 .left)
 
 array-read-lambda : tie.Need-array-read-lambda
 array-read-lambda c = search needs
@@ -158,12 +151,13 @@ cast-lambda c = search needs
 pairs-even-requires : tie.Need-pairs-even-requires
 pairs-even-requires c κs = within (start (first (c .before .before .before .before .before .before))) .v-most
 
-pairs-tested : (c : tie.After-pairs-even) → let n = c .before .before .before .before .before in
-    c .pairs-even .result ≡ pairsEven (design (start (first (n .before .before)))) (getD (n .tally .result) 64 0)
+pairs-tested : (c : tie.After-pairs-even)
+    → (let D = design (start (first (c .before .before .before .before .before .before .before))) in pairsEven D (shared D (D .b) 1 0)) ≡ c .pairs-even .result
 pairs-tested c =
     let n = c .before .before .before .before .before in
     let e = first (n .before .before) in
-    pairs-read _ _ _ _ _ (e .before .before .before .table-of .ensures) (within (start e) .v-most) (n .tally .result) (n .tally .ensures) _ (c .pairs-even .ensures)
+    ap (pairsEven (design (start e))) (sym (lambda-counted n))
+    ∙ sym (pairs-read _ _ _ _ _ (e .before .before .before .table-of .ensures) (within (start e) .v-most) (n .tally .result) (n .tally .ensures) _ (c .pairs-even .ensures))
 
 refused-requires-5 : tie.Need-refused-requires-5
 refused-requires-5 c κs = search needs
@@ -172,11 +166,9 @@ returns-5 : tie.Need-returns-5
 returns-5 c =
     let d = c .before .before in
     let f = d .before .before in
-    let n = f .before .before .before in
-    let z = n .before .before in
+    let z = f .before .before .before .before .before in
     c .refused5 .ensures
-    ∙ pairs-uneven _ _ _ _ _ _ (start (first z) .pre) (below (first z)) (once (z .before .before)) (zero z) (even f)
-    (ap (pairsEven (design (start (first z)))) (sym (lambda-counted n)) ∙ sym (pairs-tested d) ∙ not-true _ (c .before .if5 .taken))
+    ∙ pairs-uneven _ _ _ _ _ _ (start (first z) .pre) (below (first z)) (once (z .before .before)) (zero z) (even f) (pairs-tested d ∙ not-true _ (c .before .if5 .taken))
 
 returns-6 : tie.Need-returns-6
 unfolding openedBy
@@ -187,8 +179,7 @@ returns-6 c =
     let z = n .before .before in
     let e = first z in
     rw (shelf-read _ _ _ _ _ _ (start e .pre) (e .before .before .before .table-of .ensures) (r-counted n) (lambda-counted n))
-    (accepted _ _ _ _ _ _ (start e .pre) (below e) (once (z .before .before)) (zero z) (even f)
-    (ap (pairsEven (design (start e))) (sym (lambda-counted n)) ∙ sym (pairs-tested d) ∙ not-false _ (c .if5 .left)))
+    (accepted _ _ _ _ _ _ (start e .pre) (below e) (once (z .before .before)) (zero z) (even f) (pairs-tested d ∙ not-false _ (c .if5 .left)))
 
 pub open-table-spec : {M : Type 1} → statement M
 open-table-spec =

@@ -6,7 +6,7 @@ use native.Mathlib.Nat.{mul-le-mul-right}
 use native.Mathlib.Omega.{arith}
 use lib.ListN.{length, length-replicate}
 use Rattle.design.specs.Tuples.{inTable}
-use Rattle.design.specs.Tally.{Tallied}
+use Rattle.design.specs.inner.Tally.{Tallied}
 use Rattle.design.proofs.Tallies.{tallied-none, tallied-next, shared-le}
 use Rattle.design.proofs.tally.tally.Statement.{statement}
 use Rattle.design.proofs.tally.tally.Tie as tie

@@ -5,7 +5,7 @@ use Prim.Native.Nat.{ℕ, _*_, _+_, _-_, _≤_, _<_}
 use native.Mathlib.Omega.{arith}
 use lib.Dec.{eqb}
 use lib.ListN.{length, getD, length-set}
-use Rattle.design.specs.Tally.{AddedRow}
+use Rattle.design.specs.inner.Tally.{AddedRow}
 use Rattle.design.proofs.Counting.{count-le}
 use Rattle.design.proofs.Tallies.{row-none, row-next}
 use Rattle.design.proofs.tally.tally_disk.Statement.{statement}

@@ -4,11 +4,10 @@ use mathlib.Core.Path.{_≡_, sym, ap, _∙_}
 use mathlib.Core.Logic.{⊎-elim}
 use Prim.Native.Nat.{_+_, _-_, _≤_}
 use native.Mathlib.Omega.{arith}
-use borrow.Author.Tests.{eq-eqb, ne-eqb}
+use borrow.Author.Tests.{eq-eqb}
 use Rattle.design.specs.Count.{count, nth}
 use Rattle.design.proofs.Counting.{nth-count}
-use Rattle.design.proofs.Sums.{count-next}
-use Rattle.placement.proofs.Flat.{isDisk}
+use Rattle.placement.proofs.Flat.{isDisk, times-counted, times-passed}
 use Rattle.placement.proofs.seek.nth.Statement.{statement}
 use Rattle.placement.proofs.seek.nth.Tie as tie
 
@@ -46,11 +45,8 @@ loop-less c = omega arith
 loop-again : tie.Need-loop-again Inv-loop μ-loop
 loop-again c =
     let a = c .before .before .before in
-    let args = a .before .args in
-    let next = count-next (isDisk (args .table .now) (args .d)) (a .loop .i) in (
-      omega arith,
-      ⊎-elim (λ w. omega (arith, rw (eq-eqb _ _ (w .0 .taken)) at next)) (λ w. omega (arith, rw (ne-eqb _ _ (w .0 .left)) at next)) (c .if1 .came),
-    )
+    let table = a .before .args .table .now in
+    (omega arith, ⊎-elim (λ w. omega (arith, times-counted table _ (a .loop .i) (w .0 .taken))) (λ w. omega (arith, times-passed table _ (a .loop .i) (w .0 .left))) (c .if1 .came))
 
 returns-2 : tie.Need-returns-2 Inv-loop μ-loop
 returns-2 c =

@@ -1,4 +1,4 @@
--- What the table of counts holds while the tuples are tallied: entry d·64 + e for the disks d and e. The promises do not cite this file.
+-- What the table of counts holds while the tuples are tallied: entry d·64 + e for the disks d and e.
 use mathlib.Core.Path.{_≡_}
 use mathlib.Core.Bool.{cond, _&&_}
 use mathlib.Core.List.{List}
