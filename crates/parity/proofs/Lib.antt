@@ -7,6 +7,7 @@ pub mod Put
 pub mod Image
 pub mod Patch
 pub mod Index
+mod FirstTwo
 pub mod Home
 pub mod Spots
 pub mod Ranks

@@ -1,7 +1,7 @@
 -- The place of an address is that of its unit in the image. Assumes nothing.
 use mathlib.Core.Path.{_≡_, sym, ap, _∙_}
 use mathlib.Core.Bool.{true}
-use Prim.Native.Nat.{ℕ, _+_, _*_, _<_}
+use Prim.Native.Nat.{ℕ, _+_, _-_, _*_, _^_, _<_}
 use native.Mathlib.Nat.{mod-lt}
 use native.Mathlib.Omega.{arith}
 use Rattle.design.specs.declared.Shelf.{Shelf}
@@ -11,7 +11,8 @@ use Rattle.placement.specs.Placed.{spotOf}
 use Rattle.placement.proofs.Even.{Even, even-shelf}
 use Rattle.placement.proofs.Stands.{j-lt, stripe-below}
 use Rattle.parity.specs.Stripe.{depth, positionIn, unitIn, diskAt, presentOn, present}
-use Rattle.parity.proofs.Index.{position-data}
+use Rattle.parity.proofs.Index.{position-data, position-parity}
+use Rattle.parity.proofs.Sized.{units-most}
 use Rattle.parity.proofs.Home.{depth-pos, unit-lt, disk-home, offset-home, disk-below}
 
 module _ (h : Shelf) (ok : isShelf h ≡ true) (a : ℕ) (below : a < addresses (layoutIn h)) where
@@ -36,6 +37,18 @@ module _ (h : Shelf) (ok : isShelf h ≡ true) (a : ℕ) (below : a < addresses 
   pub spot-unit : spotOf (layoutIn h) a .disk * depth h + spotOf (layoutIn h) a .offset ≡ unitIn h (stripeOf (layoutIn h) a) (jOf (layoutIn h) a)
   unfolding spotOf unitIn
   spot-unit = ap (λ (p : ℕ). diskOf (layoutIn h) s p * depth h + offsetOf (layoutIn h) s p) (sym here)
+
+  -- the number of a unit is small
+  pub spot-small : spotOf (layoutIn h) a .disk * depth h + spotOf (layoutIn h) a .offset < 2 ^ 34
+  spot-small = rw spot-unit (omega (arith, unit-lt h ok s j hs hj, units-most h ok))
+
+  -- the same of the parity
+  pub spot-parity : spotOf (layoutIn h) a .«parity_disk» * depth h + spotOf (layoutIn h) a .«parity_offset» ≡ unitIn h (stripeOf (layoutIn h) a) (h .k - 1)
+  unfolding spotOf unitIn
+  spot-parity = ap (λ (p : ℕ). diskOf (layoutIn h) s p * depth h + offsetOf (layoutIn h) s p) (sym (position-parity h s))
+
+  pub parity-small : spotOf (layoutIn h) a .«parity_disk» * depth h + spotOf (layoutIn h) a .«parity_offset» < 2 ^ 34
+  parity-small = rw spot-parity (omega (arith, unit-lt h ok s (h .k - 1) hs (omega (arith, hj)), units-most h ok))
 
   pub spot-offset-lt : spotOf (layoutIn h) a .offset < depth h
   unfolding spotOf

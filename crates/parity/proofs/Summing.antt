@@ -71,10 +71,8 @@ module _ (U : ℕ) (was : List ℕ) (n : ℕ) (f : ℕ → List ℕ) where
     pub summed-other : (m : ℕ) → m * U + U ≤ length was → m ≢ n → unitAt U now m ≡ unitAt U was m
     summed-other m fits ne = ap (λ (l : List ℕ). unitAt U l m) (S .is) ∙ put-there U was n (xorSum U f j) (S .fits) sum-size m fits ne
 
-    -- said of the row before it was cleared
-    pub summed-all : (before : List ℕ) (g : ℕ → List ℕ) → n * U + U ≤ length before → was ≡ putUnit U before n (zeros U)
+    -- said of the row before unit n was touched
+    pub summed-all : (before y : List ℕ) (g : ℕ → List ℕ) → n * U + U ≤ length before → length y ≡ U → was ≡ putUnit U before n y
         → ((i : ℕ) → i < j → f i ≡ g i) → now ≡ putUnit U before n (xorSum U g j)
-    summed-all before g fits e alike =
-        S .is
-        ∙ ap₂ (λ (l x : List ℕ). putUnit U l n x) e (xorSum-ext U f g j alike)
-        ∙ put-again U before n (zeros U) fits (length-replicate U 0) (xorSum U g j)
+    summed-all before y g fits size e alike =
+        S .is ∙ ap₂ (λ (l x : List ℕ). putUnit U l n x) e (xorSum-ext U f g j alike) ∙ put-again U before n y fits size (xorSum U g j)

@@ -1,10 +1,10 @@
 -- A loop that writes the bytes s over part of a list, one in each turn, from the part's first byte on; and the bytes of an exclusive-or.
 -- Assumes nothing.
 use mathlib.Core.Path.{_≡_, refl, sym, ap, _∙_}
-use mathlib.Core.Logic.{_⊎_}
+use mathlib.Core.Logic.{_⊎_, inl, inr, ⊎-elim}
 use mathlib.Core.Bool.{_&&_}
 use mathlib.Core.List.{List, [], _∷_, append-nil}
-use Prim.Native.Nat.{ℕ, zero, suc, _+_, _≤_, _<_}
+use Prim.Native.Nat.{ℕ, zero, suc, _+_, _*_, _≤_, _<_}
 use native.Mathlib.Nat.{zero-add}
 use native.Mathlib.Numerals.{add-one}
 use native.Mathlib.Omega.{arith}
@@ -13,9 +13,9 @@ use lib.Dec.{eqb}
 use lib.ListN.{length, getD, set, take, length-set}
 use lib.Seq.{paste, paste-zero, paste-suc, take-all, drop-length}
 use borrow.Author.Tests.{eqb-true, eqb-false, ne-eqb}
-use Rattle.parity.specs.Units.{xorU, isZero}
+use Rattle.parity.specs.Units.{unitAt, xorU, isZero}
 use Rattle.parity.proofs.Cases.{cases}
-use Rattle.parity.proofs.Put.{paste-outside}
+use Rattle.parity.proofs.Put.{paste-outside, unit-byte, apart}
 
 pub byte-xor : (x y : List ℕ) (i : ℕ) → getD (xorU x y) i 0 ≡ bitXor (getD x i 0) (getD y i 0)
 unfolding xorU
@@ -58,6 +58,16 @@ module _ (was : List ℕ) (at : ℕ) (s : List ℕ) (n : ℕ) where
 pub begun-whole : (was s now : List ℕ) (i : ℕ) → Begun was 0 s (length was) now i → length was ≤ i → now ≡ s
 begun-whole was s now i b l =
     begun-all was 0 s (length was) now i b l ∙ rw (zero-add, drop-length) (append-nil (take (length was) s) ∙ take-all (length was) s (omega arith))
+
+-- a loop over unit `to` that has come to byte i: that byte of any unit is as it was
+pub byte-unread : (U : ℕ) (was : List ℕ) (to : ℕ) (s now : List ℕ) (i : ℕ) → Begun was (to * U) s U now i → i < U → (m : ℕ)
+    → getD now (m * U + i) 0 ≡ getD (unitAt U was m) i 0
+byte-unread U was to s now i b l m =
+    begun-rest was (to * U) s U now i b (m * U + i)
+    (cases (eqb m to)
+    (λ e. inr (rw (eqb-true m to e) (omega arith)))
+    (λ e. ⊎-elim inl (λ h. inr (omega arith)) (apart U m to i (eqb-false m to e) l)))
+    ∙ sym (unit-byte U was m i l)
 
 -- ---- all zeros
 

@@ -2,12 +2,16 @@
 use mathlib.Core.Path.{_≡_}
 use mathlib.Core.Bool.{true}
 use mathlib.Core.List.{List}
-use Prim.Native.Nat.{ℕ}
+use Prim.Native.Nat.{ℕ, _-_}
 use lib.ListN.{length}
 use Rattle.design.specs.declared.Shelf.{Shelf}
 use Rattle.design.specs.Shelf.{isShelf}
+use Rattle.placement.specs.Layout.{layoutIn, stripeOf, jOf}
+use Rattle.parity.specs.declared.storing.Numbers.{Numbers}
 use Rattle.parity.specs.declared.Shape.{Shape}
-use Rattle.parity.specs.Stripe.{unitSize, depth, imageSize}
+use Rattle.parity.specs.Units.{xorSum, put}
+use Rattle.parity.specs.Stores.{putUnit}
+use Rattle.parity.specs.Stripe.{unitSize, depth, imageSize, unitIn, cell}
 
 abbrev pub shapeIn : Shelf → Shape
 shapeIn h = record { k = h .k; b = h .b; r = h .r; depth = depth h; size = unitSize h }
@@ -16,3 +20,13 @@ shapeIn h = record { k = h .k; b = h .b; r = h .r; depth = depth h; size = unitS
 pub record Held (h : Shelf) (image : List ℕ) : Type 0 where
   pub shelf : isShelf h ≡ true
   pub size : length image ≡ imageSize h
+
+-- the units of an address and of its stripe's parity
+unfoldable pub numbersIn : Shelf → ℕ → Numbers
+numbersIn h a =
+    let s : ℕ = stripeOf (layoutIn h) a in
+    record { unit = unitIn h s (jOf (layoutIn h) a); parity = unitIn h s (h .k - 1) }
+
+-- the parity of stripe s becomes the exclusive-or of the data with x for data j
+unfoldable pub resealed : Shelf → List ℕ → ℕ → ℕ → List ℕ → List ℕ
+resealed h image s j x = putUnit (unitSize h) image (unitIn h s (h .k - 1)) (xorSum (unitSize h) (put (cell h image s) j x) (h .k - 1))

@@ -1,15 +1,17 @@
 // Reading and writing the units of one stripe, for calls that have passed their rules.
 ghost use mathlib.Core.Path.{_≡_};
 ghost use mathlib.Core.Logic.{_≢_};
+ghost use mathlib.Core.Bool.{true};
 ghost use Prim.Native.Nat.{_+_, _*_, _≤_, _<_};
 ghost use lib.ListN.{length};
 ghost use Rattle.design.specs.declared.Verdict.the-variants.{Accepted};
+ghost use Rattle.design.specs.Shelf.{isShelf};
 ghost use Rattle.placement.specs.Layout.{layoutIn, addresses, stripeOf, jOf};
 ghost use Rattle.parity.specs.Units.{unitAt, xorU};
-ghost use Rattle.parity.specs.Stripe.{unitSize};
+ghost use Rattle.parity.specs.Stripe.{unitSize, others};
 ghost use Rattle.parity.specs.Calls.{costs, fetched, readCost, unitWritten, writeReads, writeWrites};
 ghost use Rattle.parity.specs.Stores.{putUnit};
-ghost use Rattle.parity.specs.Shapes.{Held};
+ghost use Rattle.parity.specs.Shapes.{Held, numbersIn, resealed};
 use crate::Cost;
 use crate::presence;
 use crate::sizes;
@@ -19,11 +21,45 @@ use design::Shelf;
 use design::Verdict;
 use placement::fast;
 
+// The numbers of an address's unit and of its stripe's parity in the image.
+struct Numbers {
+    unit: usize,
+    parity: usize,
+}
+
+fn numbers_of(shelf: Shelf, address: usize) -> Numbers
+    requires { ⌜ (isShelf shelf ≡ true) × (address < addresses (layoutIn shelf)) ⌝ }
+    ensures { λ r. ⌜ r ≡ numbersIn shelf address ⌝ }
+{
+    let spot = fast::spot(shelf, address);
+    let depth = fast::offsets(shelf);
+    Numbers {
+        unit: spot.disk * depth + spot.offset,
+        parity: spot.parity_disk * depth + spot.parity_offset,
+    }
+}
+
 // The unit of an address, from its place or from the other units of its stripe; how many units were read.
 pub fn fetch(shelf: Shelf, image: &[u8], address: usize, buffer: &mut [u8]) -> usize
     requires { ⌜ Held shelf (now image) ⌝ }
     requires { ⌜ (address < addresses (layoutIn shelf)) × (length (now buffer) ≡ unitSize shelf) ⌝ }
     ensures { λ r. ⌜ (r ≡ readCost shelf (stripeOf (layoutIn shelf) address) (jOf (layoutIn shelf) address)) × (now (buffer .exit) ≡ fetched shelf (now (image .entry)) (stripeOf (layoutIn shelf) address) (jOf (layoutIn shelf) address)) ⌝ }
+{
+    let at = numbers_of(shelf, address);
+    let loss = shelf.loss;
+    if presence::is_present(loss, at.unit / fast::offsets(shelf)) {
+        units::load(buffer, image, at.unit);
+        return 1;
+    }
+    fetch_lost(shelf, image, address, buffer);
+    shelf.k - 1
+}
+
+// The unit of an address whose disk is lost. The places of all entries of the table are found in one pass.
+fn fetch_lost(shelf: Shelf, image: &[u8], address: usize, buffer: &mut [u8])
+    requires { ⌜ Held shelf (now image) ⌝ }
+    requires { ⌜ (address < addresses (layoutIn shelf)) × (length (now buffer) ≡ unitSize shelf) ⌝ }
+    ensures { λ _. ⌜ now (buffer .exit) ≡ others shelf (now (image .entry)) (stripeOf (layoutIn shelf) address) (jOf (layoutIn shelf) address) ⌝ }
 {
     let k = shelf.k;
     let table = shelf.table;
@@ -31,14 +67,7 @@ pub fn fetch(shelf: Shelf, image: &[u8], address: usize, buffer: &mut [u8]) -> u
     let shape = sizes::shape_of(shelf);
     let s = address / (k - 1);
     let j = address % (k - 1);
-    let n = stripe::number(&table, &ranks, shape, s, j);
-    let loss = shelf.loss;
-    if presence::is_present(loss, n / shape.depth) {
-        units::load(buffer, image, n);
-        return 1;
-    }
     stripe::gather(buffer, image, &table, &ranks, shape, s, j);
-    k - 1
 }
 
 // Data and parity; the parity alone, where the data disk is lost; the data alone, where the parity disk is.
@@ -47,32 +76,26 @@ pub fn store(shelf: Shelf, image: &mut [u8], address: usize, unit: &[u8]) -> Cos
     requires { ⌜ (address < addresses (layoutIn shelf)) × (length (now unit) ≡ unitSize shelf) ⌝ }
     ensures { λ r. ⌜ (r ≡ costs Accepted (writeReads shelf (stripeOf (layoutIn shelf) address) (jOf (layoutIn shelf) address)) (writeWrites shelf (stripeOf (layoutIn shelf) address) (jOf (layoutIn shelf) address))) × (now (image .exit) ≡ unitWritten shelf (now (image .entry)) (stripeOf (layoutIn shelf) address) (jOf (layoutIn shelf) address) (now (unit .entry))) ⌝ }
 {
-    let k = shelf.k;
-    let table = shelf.table;
-    let ranks = fast::ranks(&table, shelf.b * k);
-    let shape = sizes::shape_of(shelf);
-    let s = address / (k - 1);
-    let j = address % (k - 1);
-    let n = stripe::number(&table, &ranks, shape, s, j);
-    let parity = stripe::number(&table, &ranks, shape, s, k - 1);
+    let at = numbers_of(shelf, address);
+    let depth = fast::offsets(shelf);
     let loss = shelf.loss;
-    if !presence::is_present(loss, parity / shape.depth) {
-        units::store(image, n, unit);
+    if !presence::is_present(loss, at.parity / depth) {
+        units::store(image, at.unit, unit);
         return Cost {
             verdict: Verdict::Accepted,
             read: 0,
             written: 1,
         };
     }
-    if !presence::is_present(loss, n / shape.depth) {
-        stripe::reparity(image, &table, &ranks, shape, s, j, unit);
+    if !presence::is_present(loss, at.unit / depth) {
+        store_lost(shelf, image, address, unit);
         return Cost {
             verdict: Verdict::Accepted,
-            read: k - 2,
+            read: shelf.k - 2,
             written: 1,
         };
     }
-    renew(image, n, parity, unit);
+    renew(image, at.unit, at.parity, unit);
     Cost {
         verdict: Verdict::Accepted,
         read: 2,
@@ -80,12 +103,26 @@ pub fn store(shelf: Shelf, image: &mut [u8], address: usize, unit: &[u8]) -> Cos
     }
 }
 
+// The parity alone holds the unit of an address whose disk is lost.
+fn store_lost(shelf: Shelf, image: &mut [u8], address: usize, unit: &[u8])
+    requires { ⌜ Held shelf (now image) ⌝ }
+    requires { ⌜ (address < addresses (layoutIn shelf)) × (length (now unit) ≡ unitSize shelf) ⌝ }
+    ensures { λ _. ⌜ now (image .exit) ≡ resealed shelf (now (image .entry)) (stripeOf (layoutIn shelf) address) (jOf (layoutIn shelf) address) (now (unit .entry)) ⌝ }
+{
+    let k = shelf.k;
+    let table = shelf.table;
+    let ranks = fast::ranks(&table, shelf.b * k);
+    let shape = sizes::shape_of(shelf);
+    let s = address / (k - 1);
+    let j = address % (k - 1);
+    stripe::reparity(image, &table, &ranks, shape, s, j, unit);
+}
+
 // Unit n becomes the lent one, and the parity changes by the old and the new.
 fn renew(image: &mut [u8], n: usize, parity: usize, unit: &[u8])
     requires { ⌜ (n * length (now unit) + length (now unit) ≤ length (now image)) × (parity * length (now unit) + length (now unit) ≤ length (now image)) × (parity ≢ n) ⌝ }
     ensures { λ _. ⌜ now (image .exit) ≡ putUnit (length (now (unit .entry))) (putUnit (length (now (unit .entry))) (now (image .entry)) parity (xorU (unitAt (length (now (unit .entry))) (now (image .entry)) parity) (xorU (unitAt (length (now (unit .entry))) (now (image .entry)) n) (now (unit .entry))))) n (now (unit .entry)) ⌝ }
 {
-    units::mix_within(image, parity, n, unit.len());
-    units::mix_in(image, parity, unit);
+    units::mix_both(image, parity, n, unit);
     units::store(image, n, unit);
 }

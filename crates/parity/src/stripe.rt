@@ -1,6 +1,8 @@
 // The exclusive-or of the units of a stripe, into a unit of the image or into a lent one.
 ghost use mathlib.Core.Path.{_≡_};
+ghost use mathlib.Core.Bool.{cond};
 ghost use Prim.Native.Nat.{_+_, _-_, _*_, _≤_, _<_};
+ghost use lib.Dec.{ltb, eqb};
 ghost use lib.ListN.{length};
 ghost use Rattle.parity.specs.Units.{zeros, unitAt, xorSum};
 ghost use Rattle.parity.specs.Stores.{putUnit};
@@ -8,6 +10,46 @@ ghost use Rattle.parity.specs.Sums.{Placed, numberBy, sumWith};
 use crate::Shape;
 use crate::bytes;
 use crate::units;
+
+// The first index beside i, and the second.
+fn first_beside(i: usize) -> usize
+    ensures { λ r. ⌜ r ≡ cond (eqb i 0) 1 0 ⌝ }
+{
+    if i == 0 { 1 } else { 0 }
+}
+
+fn second_beside(i: usize) -> usize
+    ensures { λ r. ⌜ r ≡ cond (ltb i 2) 2 1 ⌝ }
+{
+    if i < 2 { 2 } else { 1 }
+}
+
+// Begins the exclusive-or of the units beside unit i, whose number is `to`, with the first two of them in one pass, where
+// there are two; how many units of the stripe are then done.
+fn begin(
+    image: &mut [u8],
+    table: &[u8; 2048],
+    ranks: &[u16; 2048],
+    shape: Shape,
+    s: usize,
+    i: usize,
+    to: usize,
+) -> usize
+    requires { ⌜ Placed (now table) (now ranks) shape s (length (now image)) ⌝ }
+    requires { ⌜ (i < shape .k) × (to ≡ numberBy (now table) (now ranks) shape s i) ⌝ }
+    ensures { λ r. ⌜ (r ≤ shape .k) × (now (image .exit) ≡ putUnit (shape .size) (now (image .entry)) to (sumWith (now (table .entry)) (now (ranks .entry)) shape (now (image .entry)) s i (zeros (shape .size)) r)) ⌝ }
+{
+    let size = shape.size;
+    if shape.k == 2 {
+        units::clear_unit(image, to, size);
+        return 0;
+    }
+    let second = second_beside(i);
+    let x = number(table, ranks, shape, s, first_beside(i));
+    let y = number(table, ranks, shape, s, second);
+    units::join(image, to, x, y, size);
+    second + 1
+}
 
 // Unit i of stripe s becomes the exclusive-or of the others.
 pub fn restore(
@@ -25,8 +67,8 @@ pub fn restore(
     let k = shape.k;
     let size = shape.size;
     let to = number(table, ranks, shape, s, i);
-    units::clear_unit(image, to, size);
-    for j in 0..k {
+    let begun = begin(image, table, ranks, shape, s, i, to);
+    for j in begun..k {
         if j != i {
             let from = number(table, ranks, shape, s, j);
             units::mix_within(image, to, from, size);

@@ -66,6 +66,32 @@ pub fn mix_within(image: &mut [u8], to: usize, from: usize, size: usize)
     }
 }
 
+// Unit `to` becomes the exclusive-or of units x and y, in one pass.
+pub fn join(image: &mut [u8], to: usize, x: usize, y: usize, size: usize)
+    requires { ⌜ (to * size + size ≤ length (now image)) × (x * size + size ≤ length (now image)) × (y * size + size ≤ length (now image)) ⌝ }
+    ensures { λ _. ⌜ now (image .exit) ≡ putUnit size (now (image .entry)) to (xorU (unitAt size (now (image .entry)) x) (unitAt size (now (image .entry)) y)) ⌝ }
+{
+    let a = to * size;
+    let b = x * size;
+    let c = y * size;
+    for i in 0..size {
+        image[a + i] = image[b + i] ^ image[c + i];
+    }
+}
+
+// Mixes unit `from` and a lent unit into unit `to`, in one pass.
+pub fn mix_both(image: &mut [u8], to: usize, from: usize, unit: &[u8])
+    requires { ⌜ (to * length (now unit) + length (now unit) ≤ length (now image)) × (from * length (now unit) + length (now unit) ≤ length (now image)) ⌝ }
+    ensures { λ _. ⌜ now (image .exit) ≡ putUnit (length (now (unit .entry))) (now (image .entry)) to (xorU (unitAt (length (now (unit .entry))) (now (image .entry)) to) (xorU (unitAt (length (now (unit .entry))) (now (image .entry)) from) (now (unit .entry)))) ⌝ }
+{
+    let size = unit.len();
+    let a = to * size;
+    let b = from * size;
+    for i in 0..size {
+        image[a + i] = image[a + i] ^ (image[b + i] ^ unit[i]);
+    }
+}
+
 // The number of unit i of stripe s: data i below k - 1, the parity at k - 1.
 pub fn number(
     table: &[u8; 2048],

@@ -4,6 +4,7 @@ use mathlib.Core.Path.{_∙_}
 use mathlib.Core.Logic.{⊎-elim}
 use Prim.Native.Nat.{_-_, _≤_}
 use native.Mathlib.Omega.{arith}
+use lib.ListN.{length-replicate}
 use borrow.Author.Needs.{needs}
 use Rattle.parity.proofs.StripeSums.{StripeSum, place-fits, stripe-none, stripe-mixes, stripe-next, stripe-lent, stripe-all}
 use Rattle.parity.proofs.stripe.reparity.Statement.{statement}
@@ -72,7 +73,7 @@ returns c =
     let cleared = c .before .before .before .before in
     let start = cleared .before .before .before .before .before .before in
     let inv = c .before .loop .inv in
-    stripe-all (inv .1) (start .args .image .now) (start .pre .0) (cleared .clear-unit .ensures) (inv .0) (c .loop-test .left) (omega arith) (λ n l ne e. omega arith)
+    stripe-all (inv .1) (start .args .image .now) _ (start .pre .0) (length-replicate _ 0) (cleared .clear-unit .ensures) (inv .0) (c .loop-test .left) (omega arith) (λ n l ne e. omega arith)
 
 pub reparity-spec : {M : Type 1} → statement M
 reparity-spec =

@@ -4,32 +4,33 @@ use mathlib.Core.Path.{refl, _∙_}
 use mathlib.Core.Logic.{⊎-elim}
 use Prim.Native.Nat.{_-_, _≤_}
 use native.Mathlib.Omega.{arith}
+use lib.ListN.{length-replicate}
 use borrow.Author.Needs.{needs}
 use Rattle.parity.specs.Units.{zeros}
-use Rattle.parity.proofs.StripeSums.{StripeSum, place-fits, stripe-none, stripe-mixes, stripe-next, stripe-over, stripe-all}
+use Rattle.parity.proofs.StripeSums.{StripeSum, stripe-begun, stripe-mixes, stripe-next, stripe-over, stripe-all, sum-size}
 use Rattle.parity.proofs.stripe.restore.Statement.{statement}
 use Rattle.parity.proofs.stripe.restore.Tie as tie
 
 abbrev Inv-loop : tie.InvT-loop
-Inv-loop image₀ table ranks shape s i k size to j₀ image j = (j ≤ k) × StripeSum table ranks shape s i i (zeros size) to image₀ image j
+Inv-loop image₀ table ranks shape s i k size to begun j₀ image j = (j ≤ k) × StripeSum table ranks shape s i i (zeros size) to image₀ image j
 
 abbrev μ-loop : tie.MeasureT-loop
-μ-loop image₀ table ranks shape s i k size to j₀ image j = k - j
+μ-loop image₀ table ranks shape s i k size to begun j₀ image j = k - j
 
 number-requires : tie.Need-number-requires Inv-loop μ-loop
 number-requires c κs = search needs
 
-clear-unit-requires : tie.Need-clear-unit-requires Inv-loop μ-loop
-clear-unit-requires c κs =
+begin-requires : tie.Need-begin-requires Inv-loop μ-loop
+begin-requires c κs =
     let start = c .before .before .before in
-    place-fits (start .pre .0) (start .pre .1) (c .before .number .ensures)
+    (start .pre .0, (start .pre .1, c .before .number .ensures))
 
 loop-holds : tie.Need-loop-holds Inv-loop μ-loop
 loop-holds c =
-    let start = c .before .before .before .before .before .before in (
-      omega arith,
-      stripe-none (start .args .image .now) (start .pre .0) (start .pre .1) (c .before .before .before .before .number .ensures) (c .before .before .clear-unit .ensures),
-    )
+    let at = c .before .before in
+    let start = at .before .before .before .before in
+    let begun = at .begin .ensures in
+    (begun .0, stripe-begun (start .args .image .now) (start .pre .0) (start .pre .1) (at .before .before .number .ensures) (length-replicate _ 0) (begun .0) (λ n l ne. ne) (begun .1))
 
 number-requires-2 : tie.Need-number-requires-2 Inv-loop μ-loop
 number-requires-2 c κs = search needs
@@ -56,14 +57,15 @@ loop-again c =
     )
 
 same-length : tie.Need-same-length Inv-loop μ-loop
-same-length c = c .before .loop .inv .1 .sum .same ∙ c .before .before .before .before .clear-unit .kept .0
+same-length c = c .before .loop .inv .1 .sum .same ∙ c .before .before .before .before .begin .kept .0
 
 returns : tie.Need-returns Inv-loop μ-loop
 returns c =
-    let cleared = c .before .before .before .before in
-    let start = cleared .before .before .before .before in
+    let at = c .before .before .before .before in
+    let start = at .before .before .before .before in
     let inv = c .before .loop .inv in
-    stripe-all (inv .1) (start .args .image .now) (start .pre .0) (cleared .clear-unit .ensures) (inv .0) (c .loop-test .left) (omega arith) (λ n l ne. ne)
+    let begun = at .begin .ensures in
+    stripe-all (inv .1) (start .args .image .now) _ (start .pre .0) (sum-size _ _ _ (start .pre .0) (begun .0)) (begun .1) (inv .0) (c .loop-test .left) (omega arith) (λ n l ne. ne)
 
 pub restore-spec : {M : Type 1} → statement M
 restore-spec =
@@ -72,7 +74,7 @@ restore-spec =
     Inv-loop
     μ-loop
     number-requires
-    clear-unit-requires
+    begin-requires
     loop-holds
     number-requires-2
     mix-within-requires

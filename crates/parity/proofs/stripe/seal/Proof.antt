@@ -4,7 +4,7 @@ use mathlib.Core.Path.{_≡_, refl, _∙_}
 use Prim.Native.Nat.{ℕ, _+_, _-_, _*_, _≤_, _<_}
 use native.Mathlib.Nat.{mul-le-mul-right}
 use native.Mathlib.Omega.{arith}
-use lib.ListN.{length}
+use lib.ListN.{length, length-replicate}
 use Rattle.parity.specs.Units.{unitAt}
 use Rattle.parity.proofs.Put.{part-unit, part-size}
 use Rattle.parity.proofs.Summing.{Summed, summed-none, summed-next, summed-all}
@@ -76,7 +76,7 @@ returns c =
     let cleared = c .before .before .before .before in
     let start = cleared .before .before .before .before in
     let all : c .before .loop .i ≡ start .args .count = omega arith in
-    rw all at (summed-all _ _ _ _ _ _ (c .before .loop .inv .1) (start .args .image .now) (unitAt (start .args .size) (start .args .buffer .now)) (start .pre .0) (cleared .clear-unit .ensures) (λ i l. refl))
+    rw all at (summed-all _ _ _ _ _ _ (c .before .loop .inv .1) (start .args .image .now) _ (unitAt (start .args .size) (start .args .buffer .now)) (start .pre .0) (length-replicate _ 0) (cleared .clear-unit .ensures) (λ i l. refl))
 
 pub seal-spec : {M : Type 1} → statement M
 seal-spec =

@@ -1,17 +1,16 @@
 -- `parity::units::mix_within` meets its contract. The loop's invariant: the bytes of unit `to` before i are mixed, and all others as they
 -- were. Assumes nothing.
 use mathlib.Core.Path.{_≡_, refl, sym, ap₂, _∙_}
-use mathlib.Core.Logic.{_≢_, _⊎_, inl, inr, ⊎-elim}
 use mathlib.Core.List.{List}
-use Prim.Native.Nat.{ℕ, _+_, _-_, _*_, _≤_, _<_}
+use Prim.Native.Nat.{ℕ, _+_, _-_, _*_, _<_}
 use native.Mathlib.Omega.{arith}
 use lib.Bits.{bitXor}
 use lib.ListN.{getD}
 use Rattle.parity.specs.Units.{unitAt, xorU}
 use Rattle.parity.specs.Stores.{putUnit}
 use Rattle.parity.proofs.Xor.{xorU-length}
-use Rattle.parity.proofs.Put.{unit-byte, unit-size, apart}
-use Rattle.parity.proofs.Writing.{Begun, begun-none, begun-next, begun-rest, begun-all, byte-xor}
+use Rattle.parity.proofs.Put.{unit-size}
+use Rattle.parity.proofs.Writing.{Begun, begun-none, begun-next, begun-all, byte-xor, byte-unread}
 use Rattle.parity.proofs.units.mix_within.Statement.{statement}
 use Rattle.parity.proofs.units.mix_within.Tie as tie
 
@@ -20,17 +19,12 @@ abbrev Mixed : ℕ → List ℕ → ℕ → ℕ → List ℕ
 Mixed size image to from = xorU (unitAt size image to) (unitAt size image from)
 
 -- what a turn reads, one byte of either unit, is as it was
-byte-mixed : (size : ℕ) (was : List ℕ) (to from : ℕ) (now : List ℕ) (i : ℕ) → to ≢ from → i < size
+byte-mixed : (size : ℕ) (was : List ℕ) (to from : ℕ) (now : List ℕ) (i : ℕ) → i < size
     → Begun was (to * size) (Mixed size was to from) size now i
     → bitXor (getD now (to * size + i) 0) (getD now (from * size + i) 0) ≡ getD (Mixed size was to from) i 0
-byte-mixed size was to from now i ne l b =
-    let kept = begun-rest was (to * size) (Mixed size was to from) size now i b in
-    let passed : (from * size + i < to * size) ⊎ (to * size + i ≤ from * size + i) =
-    ⊎-elim inl (λ h. inr (omega arith)) (apart size from to i (λ e. ne (sym e)) l) in
-    ap₂ bitXor
-    (kept (to * size + i) (inr (omega arith)) ∙ sym (unit-byte size was to i l))
-    (kept (from * size + i) passed ∙ sym (unit-byte size was from i l))
-    ∙ sym (byte-xor (unitAt size was to) (unitAt size was from) i)
+byte-mixed size was to from now i l b =
+    let unread = byte-unread size was to (Mixed size was to from) now i b l in
+    ap₂ bitXor (unread to) (unread from) ∙ sym (byte-xor (unitAt size was to) (unitAt size was from) i)
 
 abbrev Inv-loop : tie.InvT-loop
 Inv-loop image₀ to from size a b i₀ image i = Begun image₀ (to * size) (Mixed size image₀ to from) size image i
@@ -81,7 +75,7 @@ loop-again c =
     let a = at .before .args in
     let more = c .before .before .loop-test .taken in
     begun-next _ _ _ _ _ _ (at .loop .inv) _ _ more refl
-    (byte-mixed (a .size) (a .image .now) (a .to) (a .from) (at .loop .image) (at .loop .i) (at .before .pre .2) more (at .loop .inv))
+    (byte-mixed (a .size) (a .image .now) (a .to) (a .from) (at .loop .image) (at .loop .i) more (at .loop .inv))
 
 same-length : tie.Need-same-length Inv-loop μ-loop
 same-length c = c .before .loop .inv .same

@@ -1,0 +1,13 @@
+-- `parity::stripe::first_beside` meets its contract. Assumes nothing.
+use borrow.Author.Tests.{eq-eqb, ne-eqb}
+use Rattle.parity.proofs.stripe.first_beside.Statement.{statement}
+use Rattle.parity.proofs.stripe.first_beside.Tie as tie
+
+returns : tie.Need-returns
+returns c = rw (eq-eqb _ _ (c .if1 .taken))
+
+returns-2 : tie.Need-returns-2
+returns-2 c = rw (ne-eqb _ _ (c .if1 .left))
+
+pub first-beside-spec : {M : Type 1} → statement M
+first-beside-spec = tie.close (tie.spec returns returns-2)

@@ -1,0 +1,101 @@
+-- `parity::units::join` meets its contract. The loop's invariant: the bytes of unit `to` before i are the exclusive-or, and all others as
+-- they were. Assumes nothing.
+use mathlib.Core.Path.{refl, sym, ap₂, _∙_}
+use mathlib.Core.List.{List}
+use Prim.Native.Nat.{ℕ, _-_, _*_}
+use native.Mathlib.Omega.{arith}
+use lib.Bits.{bitXor}
+use Rattle.parity.specs.Units.{unitAt, xorU}
+use Rattle.parity.specs.Stores.{putUnit}
+use Rattle.parity.proofs.Xor.{xorU-length}
+use Rattle.parity.proofs.Put.{unit-size}
+use Rattle.parity.proofs.Writing.{Begun, begun-none, begun-next, begun-all, byte-xor, byte-unread}
+use Rattle.parity.proofs.units.join.Statement.{statement}
+use Rattle.parity.proofs.units.join.Tie as tie
+
+abbrev Joined : ℕ → List ℕ → ℕ → ℕ → List ℕ
+Joined size image x y = xorU (unitAt size image x) (unitAt size image y)
+
+abbrev Inv-loop : tie.InvT-loop
+Inv-loop image₀ to x y size a b c i₀ image i = Begun image₀ (to * size) (Joined size image₀ x y) size image i
+
+abbrev μ-loop : tie.MeasureT-loop
+μ-loop image₀ to x y size a b c i₀ image i = size - i
+
+mul-a : tie.Need-mul-a Inv-loop μ-loop
+mul-a c = omega arith
+
+mul-b : tie.Need-mul-b Inv-loop μ-loop
+mul-b c = omega arith
+
+mul-c : tie.Need-mul-c Inv-loop μ-loop
+mul-c c = omega arith
+
+loop-holds : tie.Need-loop-holds Inv-loop μ-loop
+loop-holds c =
+    let a = c .args in
+    begun-none _ _ _ _
+    (xorU-length (a .size) _ _ (unit-size (a .size) (a .image .now) (a .x) (c .pre .1)) (unit-size (a .size) (a .image .now) (a .y) (c .pre .2)))
+    (c .pre .0)
+
+add-image : tie.Need-add-image Inv-loop μ-loop
+add-image c = omega arith
+
+slice-read-image : tie.Need-slice-read-image Inv-loop μ-loop
+slice-read-image c = omega arith
+
+add-image-2 : tie.Need-add-image-2 Inv-loop μ-loop
+add-image-2 c = omega arith
+
+slice-read-image-2 : tie.Need-slice-read-image-2 Inv-loop μ-loop
+slice-read-image-2 c = omega arith
+
+add-image-3 : tie.Need-add-image-3 Inv-loop μ-loop
+add-image-3 c = omega arith
+
+slice-write-image : tie.Need-slice-write-image Inv-loop μ-loop
+slice-write-image c = omega arith
+
+add-i : tie.Need-add-i Inv-loop μ-loop
+add-i c = omega arith
+
+loop-less : tie.Need-loop-less Inv-loop μ-loop
+loop-less c = omega arith
+
+loop-again : tie.Need-loop-again Inv-loop μ-loop
+loop-again c =
+    let at = c .before .before .before in
+    let a = at .before .args in
+    let more = c .before .before .loop-test .taken in
+    let unread = byte-unread (a .size) (a .image .now) (a .to) _ (at .loop .image) (at .loop .i) (at .loop .inv) more in
+    begun-next _ _ _ _ _ _ (at .loop .inv) _ _ more refl
+    (ap₂ bitXor (unread (a .x)) (unread (a .y)) ∙ sym (byte-xor (unitAt (a .size) (a .image .now) (a .x)) (unitAt (a .size) (a .image .now) (a .y)) (at .loop .i)))
+
+same-length : tie.Need-same-length Inv-loop μ-loop
+same-length c = c .before .loop .inv .same
+
+returns : tie.Need-returns Inv-loop μ-loop
+unfolding putUnit
+returns c = begun-all _ _ _ _ _ _ (c .before .loop .inv) (c .loop-test .left)
+
+pub join-spec : {M : Type 1} → statement M
+join-spec =
+    tie.close
+    (tie.spec
+    Inv-loop
+    μ-loop
+    mul-a
+    mul-b
+    mul-c
+    loop-holds
+    add-image
+    slice-read-image
+    add-image-2
+    slice-read-image-2
+    add-image-3
+    slice-write-image
+    add-i
+    loop-less
+    loop-again
+    same-length
+    returns)
