@@ -18,7 +18,8 @@ use Rattle.placement.specs.Placed.{spotOf}
 use Rattle.parity.specs.Units.{unitAt}
 use Rattle.parity.specs.Stripe.{unitSize, depth, units, unitIn, present, cell}
 use Rattle.parity.specs.Calls.{placeRules, placeShown, unitRules, addressShown}
-use Rattle.parity.proofs.Accepted.{PlaceCall, show-place-accepted, UnitCall, unit-accepted}
+use Rattle.parity.specs.inner.Shapes.{UnitCall}
+use Rattle.parity.proofs.Accepted.{PlaceCall, show-place-accepted, unit-accepted}
 use Rattle.parity.proofs.By.{by-accepted, by-refused}
 use Rattle.parity.proofs.Cases.{cases}
 use Rattle.parity.proofs.Image.{unit-fits}

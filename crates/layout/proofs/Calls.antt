@@ -16,7 +16,7 @@ use Rattle.design.specs.Shelf.{isShelf}
 use Rattle.placement.specs.Layout.{layoutIn, stripes}
 use Rattle.layout.specs.declared.Text.the-variants as Text
 use Rattle.layout.specs.Calls.{answerBy, bufferBy, Written, lineRoom, refusedRules, firstRules, linesRules}
-use Rattle.layout.specs.Steps.{put, Put}
+use Rattle.layout.specs.inner.Steps.{put, Put}
 
 -- ---- what was put in is what was promised, and a refusal leaves the buffer
 

@@ -5,7 +5,7 @@ use Prim.Native.Nat.{ℕ, _+_, _<_}
 use native.Mathlib.Omega.{arith}
 use lib.ListN.{length, getD, set, length-set}
 use Rattle.layout.specs.Text.{colon, decimal, spaced}
-use Rattle.layout.specs.Steps.{Fits, Put, entryWord}
+use Rattle.layout.specs.inner.Steps.{Fits, Put, entryWord}
 use Rattle.layout.proofs.Puts.{put-one, put-then, fits-front, fits-rest}
 
 module _ {buffer : List ℕ} {at : ℕ} (table ranks : List ℕ) (base entry : ℕ) (fits : Fits buffer at (entryWord table ranks base entry)) {d : ℕ} (disk : d ≡ getD table entry 0) where

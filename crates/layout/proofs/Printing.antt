@@ -13,7 +13,7 @@ use Rattle.design.proofs.Tests.{shelf-parts}
 use Rattle.placement.specs.Layout.{layoutIn, stripes}
 use Rattle.placement.proofs.Bounds.{bounds, often-most}
 use Rattle.layout.specs.Text.{joined, stripeLine, linesFrom}
-use Rattle.layout.specs.Steps.{Fits, Put, Ranked, rankedLine, Reckoned}
+use Rattle.layout.specs.inner.Steps.{Fits, Put, Ranked, rankedLine, Reckoned}
 use Rattle.layout.proofs.Puts.{kept-length, put-nothing, put-then, fits-rest}
 use Rattle.layout.proofs.Lengths.{joined-ext, joined-next, line-most}
 use Rattle.layout.proofs.Ranking.{line-is}

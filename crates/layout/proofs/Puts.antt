@@ -5,7 +5,7 @@ use Prim.Native.Nat.{ℕ, suc, _+_, _<_}
 use native.Mathlib.Omega.{arith}
 use lib.ListN.{length, take, drop, set, length-append, length-drop, take-append-drop}
 use lib.Seq.{length-take-le, take-at, drop-at, drop-drop, set-split, take-set-le, append-snoc, sets, sets-eq}
-use Rattle.layout.specs.Steps.{put, Fits, Put}
+use Rattle.layout.specs.inner.Steps.{put, Fits, Put}
 
 module _ (buffer : List ℕ) (at : ℕ) where
   module _ (text : List ℕ) (fits : Fits buffer at text) where

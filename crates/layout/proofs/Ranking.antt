@@ -13,7 +13,7 @@ use Rattle.placement.proofs.Flat.{rank-before}
 use Rattle.placement.proofs.Position.{parity-lt, position-lt}
 use Rattle.placement.proofs.Row.{tuple-lt}
 use Rattle.layout.specs.Text.{lineEnd, colon, decimal, placeText, spaced, placeWord, stripeLine}
-use Rattle.layout.specs.Steps.{Ranked, entryWord, dataWords, baseOf, rankedLine}
+use Rattle.layout.specs.inner.Steps.{Ranked, entryWord, dataWords, baseOf, rankedLine}
 use Rattle.layout.proofs.Lengths.{joined-ext}
 
 module _ (h : Shelf) (ok : isShelf h ≡ true) (ranks : List ℕ) (R : Ranked (h .table) (h .b * h .k) ranks) (s : ℕ) where

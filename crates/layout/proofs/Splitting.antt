@@ -5,7 +5,7 @@ use native.Mathlib.Nat.{mul-le-mul, mul-le-mul-right, le-mul-of-pos-right, mod-l
 use native.Mathlib.Omega.{arith}
 use Rattle.placement.specs.declared.fast.Split.{Split}
 use Rattle.placement.specs.Layout.{splitOf}
-use Rattle.layout.specs.Steps.{Reckoned}
+use Rattle.layout.specs.inner.Steps.{Reckoned}
 
 pub record Small (k r : ℕ) (at : Split) : Type 0 where
   pub row : at .tuple * k + k ≤ 2048

@@ -1,4 +1,4 @@
 pub mod Text
 pub mod Calls
-pub mod Steps
 pub mod Known
+pub mod inner

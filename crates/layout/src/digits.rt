@@ -2,7 +2,7 @@
 ghost use mathlib.Core.Path.{_≡_};
 ghost use lib.ListN.{length};
 ghost use Rattle.layout.specs.Text.{decimal, spaced};
-ghost use Rattle.layout.specs.Steps.{Fits, Put};
+ghost use Rattle.layout.specs.inner.Steps.{Fits, Put};
 
 // How many digits n has.
 fn places(n: usize) -> usize

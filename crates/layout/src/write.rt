@@ -8,7 +8,7 @@ ghost use Rattle.design.specs.Shelf.{isShelf};
 ghost use Rattle.placement.specs.Layout.{layoutIn, stripes};
 ghost use Rattle.layout.specs.Text.{lineEnd, firstLine, linesFrom, refusedLine};
 ghost use Rattle.layout.specs.Calls.{lineRoom};
-ghost use Rattle.layout.specs.Steps.{Fits, Put, entryWord, dataWords, rankedLine, Reckoned};
+ghost use Rattle.layout.specs.inner.Steps.{Fits, Put, entryWord, dataWords, rankedLine, Reckoned};
 use crate::digits;
 use design::Shelf;
 use placement::fast;

@@ -15,12 +15,12 @@ use Rattle.design.specs.declared.Verdict.the-variants.{Accepted}
 use Rattle.design.specs.Refusals.{Rule, firstBroken}
 use Rattle.design.specs.Shelf.{isShelf, shelfRule}
 use Rattle.design.proofs.Counting.{both, both-of}
-use Rattle.placement.specs.Layout.{layoutIn, stripes, addresses, stripeOf, jOf}
+use Rattle.placement.specs.Layout.{layoutIn, stripes, stripeOf, jOf}
 use Rattle.placement.proofs.Even.{even-shelf}
 use Rattle.placement.proofs.Stands.{j-lt, stripe-below}
 use Rattle.parity.specs.Stripe.{unitSize, depth, present}
 use Rattle.parity.specs.Calls.{imageRule, addressRule, stripeRule, diskRule, placeRule, bufferRule, wholeRule, lostRule, isWhole, wholeRules, unitRules, stripeRules, loseRules, rebuildRules, placeRules, presentRule}
-use Rattle.parity.specs.Shapes.{Held}
+use Rattle.parity.specs.inner.Shapes.{Held, UnitCall, StripeCall}
 use Rattle.parity.proofs.Cases.{cases}
 
 -- ---- rule after rule
@@ -128,11 +128,6 @@ lose-accepted h d =
 
 -- ---- a read, a unit write, show address
 
-pub record UnitCall (h : Shelf) (image : List ℕ) (a : ℕ) (unit : List ℕ) : Type 0 where
-  pub stored : Held h image
-  pub address : a < addresses (layoutIn h)
-  pub exact : length unit ≡ unitSize h
-
 module _ (h : Shelf) (image : List ℕ) (a : ℕ) (unit : List ℕ) where
   pub unit-accepted : (firstBroken (unitRules h (length image) a (length unit)) ≡ Accepted) ↔ UnitCall h image a unit
   unfolding unitRules
@@ -152,11 +147,6 @@ module _ {h : Shelf} {image : List ℕ} {a : ℕ} {unit : List ℕ} (w : UnitCal
   call-data-lt = j-lt (layoutIn h) (even-shelf h (w .stored .shelf)) a
 
 -- ---- a stripe write
-
-pub record StripeCall (h : Shelf) (image : List ℕ) (s : ℕ) (buffer : List ℕ) : Type 0 where
-  pub stored : Held h image
-  pub stripe : s < stripes (layoutIn h)
-  pub exact : length buffer ≡ (h .k - 1) * unitSize h
 
 pub stripe-write-accepted : (h : Shelf) (image : List ℕ) (s : ℕ) (buffer : List ℕ) → (firstBroken (stripeRules h (length image) s (length buffer)) ≡ Accepted) ↔ StripeCall h image s buffer
 unfolding stripeRules

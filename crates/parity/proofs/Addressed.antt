@@ -9,27 +9,23 @@ use native.Mathlib.Omega.{arith}
 use lib.ListN.{length}
 use Rattle.design.specs.declared.Shelf.{Shelf}
 use Rattle.design.specs.declared.Verdict.the-variants.{Accepted}
-use Rattle.placement.specs.Layout.{layoutIn, addresses, stripeOf, jOf}
+use Rattle.placement.specs.Layout.{layoutIn, stripeOf, jOf}
 use Rattle.parity.specs.declared.Cost.{Cost}
 use Rattle.parity.specs.declared.Shape.{Shape}
 use Rattle.parity.specs.Units.{zeros, unitAt, xorU, xorSum, put}
-use Rattle.parity.specs.Stripe.{unitSize, depth, unitIn, units, presentOn, indexHere, present, cell, others}
+use Rattle.parity.specs.Stripe.{unitSize, depth, unitIn, units, presentOn, present, cell, others}
 use Rattle.parity.specs.Calls.{by, costs, fetched, readCost, newParity, unitWritten, writeReads, writeWrites}
-use Rattle.parity.specs.Stores.{Ranked, putUnit}
-use Rattle.parity.specs.Sums.{Placed, numberBy, sumWith}
-use Rattle.parity.specs.Shapes.{shapeIn, Held, resealed}
+use Rattle.parity.specs.inner.Stores.{Ranked, putUnit}
+use Rattle.parity.specs.inner.Sums.{Placed, numberBy, sumWith}
+use Rattle.parity.specs.inner.Shapes.{shapeIn, UnitCall, resealed}
 use Rattle.parity.proofs.Image.{unit-fits}
-use Rattle.parity.proofs.Home.{unit-lt, index-home, beside-absent}
-use Rattle.parity.proofs.Accepted.{UnitCall, call-stripe-lt, call-data-lt}
+use Rattle.parity.proofs.Home.{unit-lt, beside-absent}
+use Rattle.parity.proofs.Accepted.{call-stripe-lt, call-data-lt}
 use Rattle.parity.proofs.Ready.{present-disk}
 use Rattle.parity.proofs.Places.{number-unit, sum-cells, sum-others}
 use Rattle.parity.proofs.Prepared.{Prepared}
 use Rattle.parity.proofs.Prepared as prepared
 use Rattle.parity.proofs.UnitStores.{write-both, write-data, write-parity}
-
--- what the code asks, as the rules have it
-pub unit-call : {h : Shelf} {image : List ℕ} {a : ℕ} {unit : List ℕ} → Held h image → (a < addresses (layoutIn h)) × (length unit ≡ unitSize h) → UnitCall h image a unit
-unit-call held asked = record { stored = held; address = asked .0; exact = asked .1 }
 
 module _ {h : Shelf} {image : List ℕ} {a : ℕ} {unit : List ℕ} (w : UnitCall h image a unit) where
   abbrev s : ℕ
@@ -112,13 +108,6 @@ module _ {h : Shelf} {image : List ℕ} {a : ℕ} {unit : List ℕ} (w : UnitCal
             ∙ ap (λ (x : List ℕ). putUnit (unitSize h) (putUnit (unitSize h) image parity x) (unitIn h s j) unit) (sym sum)
             ∙ write-both h (w .stored .shelf) image (w .stored .size) s j unit (call-stripe-lt w) (call-data-lt w) (w .exact) p q,
       )
-
-  -- the data and the parity are two units
-  pub numbers-apart : {n m : ℕ} → n ≡ unitIn h s j → m ≡ parity → m ≢ n
-  numbers-apart e f same =
-      let ok = w .stored .shelf in
-      let hs = call-stripe-lt w in
-      parity-apart (sym (index-home h ok s (h .k - 1) hs parity-lt) ∙ ap (indexHere h) (sym f ∙ same ∙ e) ∙ index-home h ok s j hs data-lt)
 
   -- ---- beside a lost disk, with the ranks of the table and the shape of the shelf
 

@@ -23,6 +23,14 @@ pub by-refused : {A : Type 0} {v : Verdict} {r : Refusal} (x y : A) → v ≡ Re
 unfolding by
 by-refused x y e = rw e
 
+-- by a verdict w that the code found as v
+module _ {A : Type 0} {v w : Verdict} (x y : A) (e : v ≡ w) where
+  pub accepted-gives : {z : A} → v ≡ Accepted → z ≡ x → z ≡ by w x y
+  accepted-gives f p = p ∙ sym (by-accepted x y (sym e ∙ f))
+
+  pub refused-gives : {r : Refusal} → v ≡ Refused r → y ≡ by w x y
+  refused-gives f = sym (by-refused x y (sym e ∙ f))
+
 -- what is given if accepted is one
 pub by-same : {A : Type 0} (v : Verdict) (x x′ y : A) → (v ≡ Accepted → x ≡ x′) → by v x y ≡ by v x′ y
 unfolding by

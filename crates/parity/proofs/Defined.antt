@@ -8,11 +8,11 @@ use Prim.Native.Nat.{ℕ, _-_, _*_, _<_}
 use native.Mathlib.Omega.{arith}
 use lib.Dec.{eqb}
 use lib.ListN.{length}
-use borrow.Author.Tests.{eq-eqb, ne-eqb, eqb-true, not-true}
+use borrow.Author.Tests.{eq-eqb, ne-eqb, not-true}
 use Rattle.design.specs.declared.Loss.the-variants.{Disk}
 use Rattle.design.specs.declared.Shelf.{Shelf}
 use Rattle.design.specs.Shelf.{isShelf}
-use Rattle.design.proofs.Counting.{both}
+use Rattle.design.proofs.Counting.{both, both-of}
 use Rattle.placement.specs.Layout.{layoutIn, stripes}
 use Rattle.parity.specs.Units.{unitAt, xorU, put}
 use Rattle.parity.specs.Stripe.{unitSize, units, imageSize, unitIn, diskAt, stripeHere, indexHere, present, cell}
@@ -25,6 +25,7 @@ use Rattle.parity.proofs.Meets.{unit-on-disk, lost-exactly, present-is}
 use Rattle.parity.proofs.Cells.{others-ext}
 use Rattle.parity.proofs.Rebuilt.{restored-sized}
 use Rattle.parity.proofs.Written.{unit-written-sized, stripe-written-sized}
+use Rattle.parity.proofs.Stores.{unit-is}
 use Rattle.parity.proofs.Sets.{readSet, dataOrParity, writeReadSet, writeSet, stripeSet, rebuildSet}
 
 -- two images have the same bytes in each unit that passes `on`
@@ -89,8 +90,7 @@ module _ (h : Shelf) (ok : isShelf h ≡ true) (a b : List ℕ) where
           parity-here p =
               let q = both (eqb (stripeHere h n) s && dataOrParity h j (indexHere h n)) (present h n) e in
               let r = both (eqb (stripeHere h n) s) (dataOrParity h j (indexHere h n)) (q .0) in
-              let i-is : indexHere h n ≡ h .k - 1 = eqb-true _ _ (rw p at (r .1)) in
-              ap (present h) (ap₂ (unitIn h) (sym (eqb-true _ s (r .0))) (sym i-is) ∙ unit-home h ok n hn) ∙ q .1
+              ap (present h) (unit-is h ok s (h .k - 1) n hn (both-of (r .0) (rw p at (r .1)))) ∙ q .1
 
   -- ---- stripe write: from no unit of the image
 

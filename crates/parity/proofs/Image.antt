@@ -8,7 +8,7 @@ use native.Mathlib.Omega.{arith}
 use lib.ListN.{length, take, drop, getD, length-append, length-drop}
 use lib.Seq.{ext-getD, take-all, take-append-le, drop-append-le, drop-at}
 use Rattle.parity.specs.Units.{unitAt, unitsOf}
-use Rattle.parity.specs.Stores.{putUnit}
+use Rattle.parity.specs.inner.Stores.{putUnit}
 use Rattle.parity.proofs.Put.{unit-byte, unit-size, put-size, put-here, put-there}
 
 -- ---- a unit

@@ -9,7 +9,6 @@ pub mod Patch
 pub mod Index
 mod FirstTwo
 pub mod Home
-pub mod Spots
 pub mod Ranks
 pub mod UnitCounts
 pub mod Meets
@@ -22,6 +21,7 @@ pub mod StripeStores
 pub mod Restores
 pub mod Rising
 pub mod Accepted
+pub mod Spots
 pub mod Verdicts
 pub mod Wrong
 pub mod Counts
@@ -48,7 +48,6 @@ pub mod Summing
 pub mod StripeSums
 pub mod Places
 pub mod Addressed
-pub mod UnitCalls
 pub mod ReadCounts
 pub mod LostUnits
 pub mod Prepared

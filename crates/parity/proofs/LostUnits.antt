@@ -24,9 +24,9 @@ use Rattle.placement.proofs.Flat.{isDisk, some-left, stripe-found, position-fou
 use Rattle.parity.specs.declared.Shape.{Shape}
 use Rattle.parity.specs.Units.{zeros, put}
 use Rattle.parity.specs.Stripe.{unitSize, depth, units, imageSize, unitIn, diskAt, stripeHere, indexHere, presentOn, present, others}
-use Rattle.parity.specs.Stores.{Ranked, putUnit}
-use Rattle.parity.specs.Sums.{Placed, numberBy, sumWith}
-use Rattle.parity.specs.Shapes.{shapeIn}
+use Rattle.parity.specs.inner.Stores.{Ranked, putUnit}
+use Rattle.parity.specs.inner.Sums.{Placed, numberBy, sumWith}
+use Rattle.parity.specs.inner.Shapes.{shapeIn}
 use Rattle.parity.specs.Calls.{rebuiltImage}
 use Rattle.parity.proofs.Cases.{cases, below-next}
 use Rattle.parity.proofs.Ready.{entries-fit}

@@ -17,7 +17,7 @@ use Rattle.placement.proofs.Stands.{j-lt, stripe-below}
 use Rattle.parity.specs.Units.{zeros, unitAt, xorU, xorSum, put}
 use Rattle.parity.specs.Stripe.{unitSize, units, unitIn, stripeHere, indexHere, present, cell, others}
 use Rattle.parity.specs.Calls.{fetched}
-use Rattle.parity.specs.Shapes.{Held}
+use Rattle.parity.specs.inner.Shapes.{Held}
 use Rattle.parity.proofs.Cases.{cases, put-same, put-other, put-each, put-ext}
 use Rattle.parity.proofs.Xor.{xorU-self, xorSum-ext, xorSum-length, recover}
 use Rattle.parity.proofs.Patch.{same-image}

@@ -11,7 +11,7 @@ use borrow.Author.Tests.{eqb-true, eqb-false}
 use Rattle.design.specs.declared.Shelf.{Shelf}
 use Rattle.parity.specs.Units.{unitAt, put}
 use Rattle.parity.specs.Stripe.{unitSize, units, imageSize, patch}
-use Rattle.parity.specs.Stores.{putUnit}
+use Rattle.parity.specs.inner.Stores.{putUnit}
 use Rattle.parity.proofs.Cases.{cases}
 use Rattle.parity.proofs.Image.{unit-length, put-length, unit-put-same, unit-put-other, image-ext, units-length, units-unit}
 

@@ -3,36 +3,23 @@ use mathlib.Core.Path.{_≡_, sym, ap, _∙_}
 use mathlib.Core.Bool.{true}
 use mathlib.Core.List.{List}
 use Prim.Native.Nat.{ℕ, _*_, _≤_, _<_}
-use native.Mathlib.Nat.{mul-le-mul, mul-le-mul-right}
 use native.Mathlib.Omega.{arith}
 use lib.ListN.{length}
 use Rattle.design.specs.declared.Shelf.{Shelf}
-use Rattle.design.specs.Shelf.{isShelf, designIn}
-use Rattle.design.specs.Tuples.{holds, before}
-use Rattle.design.proofs.Counting.{count-le}
-use Rattle.design.proofs.Tests.{IsShelf, shelf-parts}
+use Rattle.design.specs.Shelf.{isShelf}
+use Rattle.design.proofs.Tests.{shelf-parts}
 use Rattle.placement.specs.Layout.{layoutIn, stripes}
+use Rattle.placement.proofs.Bounds.{often-most, bounds}
 use Rattle.parity.specs.Units.{zeros, unitAt, xorSum, put}
-use Rattle.parity.specs.Stripe.{unitSize, depth, units, imageSize, unitIn, indexHere, cell, others}
-use Rattle.parity.specs.Stores.{Ranked}
-use Rattle.parity.specs.Shapes.{shapeIn}
-use Rattle.parity.specs.Sums.{Placed, numberBy, unitBy, sumWith}
+use Rattle.parity.specs.Stripe.{unitSize, units, imageSize, unitIn, indexHere, cell, others}
+use Rattle.parity.specs.inner.Stores.{Ranked}
+use Rattle.parity.specs.inner.Shapes.{shapeIn}
+use Rattle.parity.specs.inner.Sums.{Placed, numberBy, unitBy, sumWith}
 use Rattle.parity.proofs.Cases.{put-other, put-ext}
 use Rattle.parity.proofs.Xor.{xorSum-ext}
 use Rattle.parity.proofs.Image.{unit-fits}
 use Rattle.parity.proofs.Home.{unit-lt, index-home}
 use Rattle.parity.proofs.Ranks.{numbered}
-
--- a disk stands in at most b tuples
-often-le : (h : Shelf) → IsShelf h → h .r ≤ h .b
-unfolding before
-often-le h S = omega (arith, S .often 0 (omega (arith, S .limits .v-least)), count-le (λ q. holds (designIn h) q 0) (h .b))
-
-stripes-le : (h : Shelf) → IsShelf h → stripes (layoutIn h) ≤ 134215680
-stripes-le h S = omega (arith, mul-le-mul {n₂ = 65535} {m₂ = 2048} (S .limits .T-most) (S .limits .places))
-
-depth-le : (h : Shelf) → IsShelf h → depth h ≤ 134215680
-depth-le h S = omega (arith, stripes-le h S, mul-le-mul-right (h .T * h .k) (often-le h S))
 
 module _ (h : Shelf) (ok : isShelf h ≡ true) (ranks : List ℕ) (R : Ranked (h .table) (h .b * h .k) ranks) (s : ℕ) (hs : s < stripes (layoutIn h)) where
   pub number-unit : (i : ℕ) → i < h .k → numberBy (h .table) ranks (shapeIn h) s i ≡ unitIn h s i
@@ -40,14 +27,14 @@ module _ (h : Shelf) (ok : isShelf h ≡ true) (ranks : List ℕ) (R : Ranked (h
 
   pub shelf-placed : (image : List ℕ) → length image ≡ imageSize h → Placed (h .table) ranks (shapeIn h) s (length image)
   shelf-placed image len =
-      let S : IsShelf h = shelf-parts h ok in
+      let l = shelf-parts h ok .limits in
       record {
-        two = S .limits .k-least;
-        some = S .limits .b-least;
-        entries = S .limits .places;
-        rows = omega (arith, stripes-le h S);
-        often = omega (arith, often-le h S, S .limits .places, S .limits .k-least, mul-le-mul {n₁ = h .b} {m₁ = 2} {n₂ = h .b} {m₂ = h .k} (omega arith) (S .limits .k-least));
-        deep = depth-le h S;
+        two = l .k-least;
+        some = l .b-least;
+        entries = l .places;
+        often = often-most h ok;
+        deep = bounds h ok .offsets;
+        row = omega (arith, bounds h ok .stripes);
         within = λ i hi. rw (number-unit i hi) (unit-fits (unitSize h) (units h) image len (unitIn h s i) (unit-lt h ok s i hs hi));
         apart = λ i j hi hj e.
             sym (index-home h ok s i hs hi) ∙ ap (λ (n : ℕ). indexHere h n) (sym (number-unit i hi) ∙ e ∙ number-unit j hj) ∙ index-home h ok s j hs hj;

@@ -1,16 +1,17 @@
 -- What a call that goes through stripes knows once it has ranked the table and taken the shape of the shelf. Assumes nothing.
-use mathlib.Core.Path.{_≡_, ap, _∙_}
+use mathlib.Core.Path.{_≡_, ap, ap₂, _∙_}
 use mathlib.Core.List.{List}
-use Prim.Native.Nat.{ℕ, _*_, _≤_, _<_}
+use Prim.Native.Nat.{ℕ, _*_, _/_, _≤_, _<_}
 use lib.ListN.{length}
 use Rattle.design.specs.declared.Shelf.{Shelf}
 use Rattle.placement.specs.Layout.{layoutIn, stripes}
 use Rattle.parity.specs.declared.Shape.{Shape}
-use Rattle.parity.specs.Stripe.{unitIn}
-use Rattle.parity.specs.Stores.{Ranked}
-use Rattle.parity.specs.Sums.{Placed, numberBy}
-use Rattle.parity.specs.Shapes.{Held, shapeIn}
+use Rattle.parity.specs.Stripe.{unitIn, presentOn, present}
+use Rattle.parity.specs.inner.Stores.{Ranked, Reckoned}
+use Rattle.parity.specs.inner.Sums.{Placed, numberBy}
+use Rattle.parity.specs.inner.Shapes.{Held, shapeIn}
 use Rattle.parity.proofs.Sized.{unit-size-most}
+use Rattle.parity.proofs.Ready.{present-disk}
 use Rattle.parity.proofs.Home.{depth-pos}
 use Rattle.parity.proofs.Places.{number-unit, shelf-placed}
 
@@ -34,9 +35,13 @@ module _ {h : Shelf} {image ranks : List ℕ} {shape : Shape} (p : Prepared h im
     unit-numbered {i} hi e =
         e ∙ ap (λ (x : Shape). numberBy (h .table) ranks x s i) (p .shaped) ∙ number-unit h (p .held .shelf) ranks (p .ranked) s hs i hi
 
+    pub unit-there : {i n : ℕ} → i < h .k → n ≡ numberBy (h .table) ranks shape s i → presentOn (h .loss) (n / shape .depth) ≡ present h (unitIn h s i)
+    unit-there {i} hi e =
+        ap₂ (λ (x : Shape) (m : ℕ). presentOn (h .loss) (m / x .depth)) (p .shaped) (unit-numbered hi e) ∙ present-disk h (unitIn h s i)
+
     -- what is asked of a call for the number of unit i
     pub number-asks : {i : ℕ} → i < h .k
-        → ((2 ≤ shape .k) × (1 ≤ shape .b) × (shape .b * shape .k ≤ 2048) × (i < shape .k)) × ((shape .depth ≤ 134215680) × (s ≤ 134215680) × (shape .r ≤ 1024))
+        → Reckoned (shape .k) (shape .b) (shape .r) (shape .depth) s i
     number-asks l =
         let w = units-placed in
-        ((w .two, w .some, w .entries, rw (p .shaped) l), (w .deep, w .rows, w .often))
+        record { two = w .two; some = w .some; entries = w .entries; often = w .often; deep = w .deep; row = w .row; index = rw (p .shaped) l }

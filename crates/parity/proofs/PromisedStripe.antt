@@ -12,8 +12,9 @@ use Rattle.design.specs.Refusals.{firstBroken}
 use Rattle.parity.specs.declared.Cost.{Cost}
 use Rattle.parity.specs.Stripe.{units}
 use Rattle.parity.specs.Calls.{costs, stripeRules, stripeWrites, stripeWritten, WroteStripe}
+use Rattle.parity.specs.inner.Shapes.{StripeCall}
 use Rattle.parity.proofs.By.{by-accepted, same-verdict, Costs, cost-accepted}
-use Rattle.parity.proofs.Accepted.{StripeCall, stripe-write-accepted}
+use Rattle.parity.proofs.Accepted.{stripe-write-accepted}
 use Rattle.parity.proofs.Sets.{stripeSet, stripe-size}
 use Rattle.parity.proofs.Defined.{Agree, stripe-write-defined}
 use Rattle.parity.proofs.Kept.{Kept, stripe-write-kept}

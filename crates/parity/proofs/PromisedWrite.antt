@@ -15,8 +15,9 @@ use Rattle.parity.specs.declared.Cost.{Cost}
 use Rattle.parity.specs.Units.{xorSum}
 use Rattle.parity.specs.Stripe.{unitSize, units, unitIn, present, cell}
 use Rattle.parity.specs.Calls.{costs, unitRules, writeReads, writeWrites, unitWritten, Wrote}
+use Rattle.parity.specs.inner.Shapes.{UnitCall}
 use Rattle.parity.proofs.By.{by-accepted, same-verdict, Costs, cost-accepted}
-use Rattle.parity.proofs.Accepted.{UnitCall, unit-accepted, call-stripe-lt, call-data-lt}
+use Rattle.parity.proofs.Accepted.{unit-accepted, call-stripe-lt, call-data-lt}
 use Rattle.parity.proofs.Wrong.{unit-write-keeps}
 use Rattle.parity.proofs.Sets.{writeReadSet, writeSet, write-read-size, write-size}
 use Rattle.parity.proofs.Defined.{Agree, unit-write-defined}

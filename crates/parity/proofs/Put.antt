@@ -11,7 +11,7 @@ use lib.Seq.{paste, length-paste, drop-paste, take-at, drop-at, drop-drop, lengt
 use borrow.Author.Tests.{ltb-true, ltb-false}
 use borrow.Rule.Slice.PartMut.{midOf, putMid}
 use Rattle.parity.specs.Units.{unitAt}
-use Rattle.parity.specs.Stores.{putUnit}
+use Rattle.parity.specs.inner.Stores.{putUnit}
 use Rattle.parity.proofs.Cases.{cases}
 
 -- ---- a list with the n elements from `at` on replaced

@@ -29,7 +29,7 @@ use Rattle.parity.proofs.Memory.{dataOf, asked, Keeps, asked-data, aske
 -- ---- another memory
 
 -- one that has the same data of stripe t asks for the same units
-asked-same : (h : Shelf) (memory memory′ : ℕ → List ℕ) (t : ℕ) → ((i : ℕ) → i < h .k - 1 → dataOf h memory′ t i ≡ dataOf h memory t i)
+pub asked-same : (h : Shelf) (memory memory′ : ℕ → List ℕ) (t : ℕ) → ((i : ℕ) → i < h .k - 1 → dataOf h memory′ t i ≡ dataOf h memory t i)
     → (i : ℕ) → i < h .k → asked h memory′ t i ≡ asked h memory t i
 unfolding asked
 asked-same h memory memory′ t same i hi = cases (eqb i (h .k - 1))

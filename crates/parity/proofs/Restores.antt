@@ -12,7 +12,7 @@ use Rattle.design.specs.Shelf.{isShelf}
 use Rattle.placement.specs.Layout.{layoutIn, stripes}
 use Rattle.parity.specs.Units.{unitAt, put}
 use Rattle.parity.specs.Stripe.{unitSize, units, imageSize, unitIn, stripeHere, indexHere, present, cell, others}
-use Rattle.parity.specs.Stores.{putUnit}
+use Rattle.parity.specs.inner.Stores.{putUnit}
 use Rattle.parity.specs.Calls.{rebuiltImage}
 use Rattle.parity.proofs.Cases.{cases}
 use Rattle.parity.proofs.Patch.{Patched, patched-none, patched-put, patched-test, patched-is}

@@ -16,7 +16,7 @@ use Rattle.placement.specs.Layout.{layoutIn, stripes}
 use Rattle.parity.specs.declared.Shape.{Shape}
 use Rattle.parity.specs.Units.{zeros, isZero}
 use Rattle.parity.specs.Stripe.{wrong}
-use Rattle.parity.specs.Sums.{sumWith}
+use Rattle.parity.specs.inner.Sums.{sumWith}
 use Rattle.parity.proofs.Places.{sum-whole}
 use Rattle.parity.proofs.Prepared.{Prepared}
 

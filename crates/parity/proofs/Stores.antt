@@ -11,7 +11,7 @@ use Rattle.design.specs.Shelf.{isShelf}
 use Rattle.design.proofs.Counting.{alike, both, both-of}
 use Rattle.placement.specs.Layout.{layoutIn, stripes}
 use Rattle.parity.specs.Stripe.{unitSize, units, unitIn, stripeHere, indexHere}
-use Rattle.parity.specs.Stores.{putUnit}
+use Rattle.parity.specs.inner.Stores.{putUnit}
 use Rattle.parity.proofs.Patch.{Patched, patched-put, patched-test}
 use Rattle.parity.proofs.Home.{unit-lt, stripe-home, index-home, unit-home}
 

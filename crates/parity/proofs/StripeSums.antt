@@ -9,8 +9,8 @@ use lib.ListN.{length, length-replicate}
 use borrow.Author.Tests.{eq-eqb}
 use Rattle.parity.specs.declared.Shape.{Shape}
 use Rattle.parity.specs.Units.{zeros, unitAt, xorU, xorSum, put}
-use Rattle.parity.specs.Stores.{putUnit}
-use Rattle.parity.specs.Sums.{Placed, numberBy, unitBy, sumWith}
+use Rattle.parity.specs.inner.Stores.{putUnit}
+use Rattle.parity.specs.inner.Sums.{Placed, numberBy, unitBy, sumWith}
 use Rattle.parity.proofs.Cases.{cases, put-other, put-ext}
 use Rattle.parity.proofs.Xor.{xorU-length, xorSum-ext, xorSum-length}
 use Rattle.parity.proofs.Put.{unit-size, put-size, put-there, put-again}
@@ -100,13 +100,9 @@ module _ {table ranks : List ℕ} {shape : Shape} {s : ℕ} where
       apart {m} l e ne same = ne (S .placed .apart m t l (S .below) (sym e ∙ same ∙ S .number))
 
       -- unit j can be mixed in
-      pub stripe-mixes : {from : ℕ} → j < shape .k → from ≡ numberBy table ranks shape s j → j ≢ t
-          → (to * shape .size + shape .size ≤ length now) × (from * shape .size + shape .size ≤ length now) × (to ≢ from)
-      stripe-mixes l e ne = (
-        omega (arith, S .sum .fits, S .sum .same),
-        omega (arith, place-fits (S .placed) l e, S .sum .same),
-        λ same. apart l e ne (sym same),
-      )
+      pub stripe-mixes : {from : ℕ} → j < shape .k → from ≡ numberBy table ranks shape s j
+          → (to * shape .size + shape .size ≤ length now) × (from * shape .size + shape .size ≤ length now)
+      stripe-mixes l e = (omega (arith, S .sum .fits, S .sum .same), omega (arith, place-fits (S .placed) l e, S .sum .same))
 
       -- unit j is mixed in, which is not unit i
       pub stripe-next : {from : ℕ} {after : List ℕ} → j < shape .k → from ≡ numberBy table ranks shape s j → j ≢ t → j ≢ i

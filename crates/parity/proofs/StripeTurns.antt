@@ -1,6 +1,6 @@
 -- A stripe write takes the units of the stripe one after another: what it knows of each, and what it has done before it.
 -- Assumes nothing.
-use mathlib.Core.Path.{_≡_, refl, sym, ap₂, _∙_}
+use mathlib.Core.Path.{_≡_, refl, sym, _∙_}
 use mathlib.Core.Logic.{_≢_}
 use mathlib.Core.Bool.{true, false}
 use mathlib.Core.List.{List}
@@ -19,12 +19,12 @@ use Rattle.parity.specs.declared.Shape.{Shape}
 use Rattle.parity.specs.Units.{unitAt, xorSum}
 use Rattle.parity.specs.Stripe.{unitSize, unitIn, presentOn, present}
 use Rattle.parity.specs.Calls.{withParity, stripeWritten, stripeWrites}
-use Rattle.parity.specs.Stores.{putUnit}
-use Rattle.parity.specs.Sums.{numberBy}
-use Rattle.parity.specs.Shapes.{Held}
+use Rattle.parity.specs.inner.Stores.{putUnit}
+use Rattle.parity.specs.inner.Sums.{numberBy}
+use Rattle.parity.specs.inner.Shapes.{Held}
 use Rattle.parity.proofs.Sized.{stripe-size-most}
-use Rattle.parity.proofs.Ready.{present-disk}
-use Rattle.parity.proofs.Prepared.{Prepared, units-placed, unit-numbered}
+use Rattle.parity.proofs.Prepared.{Prepared, units-placed, unit-numbered, unit-there}
+use Rattle.parity.proofs.StripeSums.{place-fits}
 use Rattle.parity.proofs.StripeStores.{StripeBegun, stripe-none, stripe-put, stripe-skip, stripe-all}
 
 -- what is known when the first unit is taken
@@ -81,17 +81,12 @@ module _ {h : Shelf} {image : List ℕ} {s : ℕ} {buffer ranks : List ℕ} {sha
     -- unit i has number n
     module _ (hi : i < h .k) {n : ℕ} (e : n ≡ numberBy (h .table) ranks shape s i) where
       pub begun-fits : n * shape .size + shape .size ≤ length now
-      begun-fits = rw (begun-size, e) (units-placed (t .ready) (t .below) .within i (rw (t .ready .shaped) hi))
-
-      there : presentOn (h .loss) (n / shape .depth) ≡ present h (unitIn h s i)
-      there =
-          ap₂ (λ (x : Shape) (m : ℕ). presentOn (h .loss) (m / x .depth)) (t .ready .shaped) (unit-numbered (t .ready) (t .below) hi e)
-          ∙ present-disk h (unitIn h s i)
+      begun-fits = rw begun-size (place-fits (units-placed (t .ready) (t .below)) (rw (t .ready .shaped) hi) e)
 
       pub begun-put : {after x : List ℕ} → presentOn (h .loss) (n / shape .depth) ≡ true → x ≡ withParity h buffer i
           → after ≡ putUnit (shape .size) now n x → Begun h image s buffer (i + 1) after (written + 1)
       begun-put {after} p w put =
-          let here : present h (unitIn h s i) ≡ true = sym there ∙ p in
+          let here : present h (unitIn h s i) ≡ true = sym (unit-there (t .ready) (t .below) hi e) ∙ p in
           let same : after ≡ putUnit (unitSize h) now (unitIn h s i) (withParity h buffer i) =
           put ∙ rw (t .ready .shaped, unit-numbered (t .ready) (t .below) hi e, w) in
           record {
@@ -101,7 +96,7 @@ module _ {h : Shelf} {image : List ℕ} {s : ℕ} {buffer ranks : List ℕ} {sha
 
       pub begun-skip : presentOn (h .loss) (n / shape .depth) ≡ false → Begun h image s buffer (i + 1) now written
       begun-skip p =
-          let gone : present h (unitIn h s i) ≡ false = sym there ∙ p in
+          let gone : present h (unitIn h s i) ≡ false = sym (unit-there (t .ready) (t .below) hi e) ∙ p in
           record {
             stored = stripe-skip h (held .shelf) image (held .size) s buffer (t .exact) i (t .below) hi now (B .stored) gone;
             counted = rw (B .counted, add-one i) (sym (count-false (λ j. present h (unitIn h s j)) i gone));

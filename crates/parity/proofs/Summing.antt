@@ -8,7 +8,7 @@ use native.Mathlib.Omega.{arith}
 use lib.ListN.{length, length-replicate}
 use borrow.Author.Count.{below-none, below-more}
 use Rattle.parity.specs.Units.{zeros, unitAt, xorU, xorSum, put}
-use Rattle.parity.specs.Stores.{putUnit}
+use Rattle.parity.specs.inner.Stores.{putUnit}
 use Rattle.parity.proofs.Xor.{xorU-zeros, xorSum-ext, xorSum-length}
 use Rattle.parity.proofs.Put.{put-size, put-here, put-there, put-again}
 

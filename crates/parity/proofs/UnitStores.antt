@@ -12,7 +12,7 @@ use Rattle.design.specs.declared.Shelf.{Shelf}
 use Rattle.design.specs.Shelf.{isShelf}
 use Rattle.placement.specs.Layout.{layoutIn, stripes}
 use Rattle.parity.specs.Stripe.{unitSize, units, imageSize, unitIn, stripeHere, indexHere, present}
-use Rattle.parity.specs.Stores.{putUnit}
+use Rattle.parity.specs.inner.Stores.{putUnit}
 use Rattle.parity.specs.Calls.{newParity, unitWritten}
 use Rattle.parity.proofs.Patch.{Patched, patched-none, patched-test, patched-is}
 use Rattle.parity.proofs.Home.{index-home}

@@ -3,7 +3,7 @@ ghost use mathlib.Core.Path.{_≡_};
 ghost use Rattle.design.specs.Count.{count};
 ghost use Rattle.placement.specs.Layout.{layoutIn, stripes};
 ghost use Rattle.parity.specs.Stripe.{wrong};
-ghost use Rattle.parity.specs.Shapes.{Held};
+ghost use Rattle.parity.specs.inner.Shapes.{Held};
 use crate::bytes;
 use crate::sizes;
 use crate::stripe;
@@ -16,7 +16,7 @@ pub fn count_wrong(shelf: Shelf, image: &[u8]) -> usize
     ensures { λ r. ⌜ r ≡ count (wrong shelf (now (image .entry))) (stripes (layoutIn shelf)) ⌝ }
 {
     let table = shelf.table;
-    let ranks = fast::ranks(&table, shelf.b * shelf.k);
+    let ranks = sizes::ranks_of(shelf);
     let shape = sizes::shape_of(shelf);
     let size = shape.size;
     let mut sum = [0u8; 4096];

@@ -6,7 +6,7 @@ ghost use lib.Dec.{ltb, eqb};
 ghost use Rattle.design.specs.Count.{listFrom};
 ghost use Rattle.design.specs.Shelf.{isShelf};
 ghost use Rattle.parity.specs.Calls.{rebuiltImage, readFrom};
-ghost use Rattle.parity.specs.Shapes.{Held};
+ghost use Rattle.parity.specs.inner.Shapes.{Held};
 use crate::sizes;
 use crate::stripe;
 use design::Loss;
@@ -41,7 +41,7 @@ pub fn restore_disk(shelf: Shelf, image: &mut [u8])
     let k = shelf.k;
     let r = shelf.r;
     let table = shelf.table;
-    let ranks = fast::ranks(&table, shelf.b * k);
+    let ranks = sizes::ranks_of(shelf);
     let entries = fast::entries(&table, shelf.b * k, lost);
     let shape = sizes::shape_of(shelf);
     for o in 0..shape.depth {

@@ -2,6 +2,7 @@
 ghost use mathlib.Core.Path.{_≡_};
 ghost use Rattle.design.specs.Refusals.{firstBroken};
 ghost use Rattle.parity.specs.Calls.{wholeRules, unitRules, stripeRules, loseRules, rebuildRules, placeRules};
+ghost use Rattle.parity.specs.inner.Judged.{imageRules, spanRules};
 use crate::presence;
 use crate::sizes;
 use design::Refusal;
@@ -9,9 +10,9 @@ use design::Shelf;
 use design::Verdict;
 use placement::fast;
 
-// 10 11 14, of an image of n bytes.
-pub fn of_whole(shelf: Shelf, n: usize) -> Verdict
-    ensures { λ r. ⌜ r ≡ firstBroken (wholeRules shelf n) ⌝ }
+// 10 11, of an image of n bytes: the rules that all calls on an image begin with.
+fn of_image(shelf: Shelf, n: usize) -> Verdict
+    ensures { λ r. ⌜ r ≡ firstBroken (imageRules shelf n) ⌝ }
 {
     if !shelf.is_shelf() {
         return Verdict::Refused(Refusal::NotAShelf);
@@ -19,6 +20,30 @@ pub fn of_whole(shelf: Shelf, n: usize) -> Verdict
     if n != sizes::image_size(shelf) {
         return Verdict::Refused(Refusal::OtherImage);
     }
+    Verdict::Accepted
+}
+
+// 12 13: a number that is to be below another, and a buffer of m bytes that is to have so many.
+fn of_span(at: usize, below: usize, m: usize, size: usize) -> Verdict
+    ensures { λ r. ⌜ r ≡ firstBroken (spanRules at below m size) ⌝ }
+{
+    if below <= at {
+        return Verdict::Refused(Refusal::OutOfRange);
+    }
+    if m != size {
+        return Verdict::Refused(Refusal::OtherBuffer);
+    }
+    Verdict::Accepted
+}
+
+// 10 11 14, of an image of n bytes.
+pub fn of_whole(shelf: Shelf, n: usize) -> Verdict
+    ensures { λ r. ⌜ r ≡ firstBroken (wholeRules shelf n) ⌝ }
+{
+    let verdict = of_image(shelf, n);
+    let Verdict::Accepted = verdict else {
+        return verdict;
+    };
     let loss = shelf.loss;
     if !presence::is_whole(loss) {
         return Verdict::Refused(Refusal::SomeLost);
@@ -30,38 +55,27 @@ pub fn of_whole(shelf: Shelf, n: usize) -> Verdict
 pub fn of_unit(shelf: Shelf, n: usize, address: usize, m: usize) -> Verdict
     ensures { λ r. ⌜ r ≡ firstBroken (unitRules shelf n address m) ⌝ }
 {
-    if !shelf.is_shelf() {
-        return Verdict::Refused(Refusal::NotAShelf);
-    }
-    if n != sizes::image_size(shelf) {
-        return Verdict::Refused(Refusal::OtherImage);
-    }
-    if fast::addresses(shelf) <= address {
-        return Verdict::Refused(Refusal::OutOfRange);
-    }
-    if m != sizes::unit_size(shelf) {
-        return Verdict::Refused(Refusal::OtherBuffer);
-    }
-    Verdict::Accepted
+    let verdict = of_image(shelf, n);
+    let Verdict::Accepted = verdict else {
+        return verdict;
+    };
+    of_span(address, fast::addresses(shelf), m, sizes::unit_size(shelf))
 }
 
 // 10 11 12 13, of an image of n bytes and a stripe buffer of m.
 pub fn of_stripe(shelf: Shelf, n: usize, stripe: usize, m: usize) -> Verdict
     ensures { λ r. ⌜ r ≡ firstBroken (stripeRules shelf n stripe m) ⌝ }
 {
-    if !shelf.is_shelf() {
-        return Verdict::Refused(Refusal::NotAShelf);
-    }
-    if n != sizes::image_size(shelf) {
-        return Verdict::Refused(Refusal::OtherImage);
-    }
-    if fast::stripes(shelf) <= stripe {
-        return Verdict::Refused(Refusal::OutOfRange);
-    }
-    if m != (shelf.k - 1) * sizes::unit_size(shelf) {
-        return Verdict::Refused(Refusal::OtherBuffer);
-    }
-    Verdict::Accepted
+    let verdict = of_image(shelf, n);
+    let Verdict::Accepted = verdict else {
+        return verdict;
+    };
+    of_span(
+        stripe,
+        fast::stripes(shelf),
+        m,
+        (shelf.k - 1) * sizes::unit_size(shelf),
+    )
 }
 
 // 10 12 14.
@@ -85,12 +99,10 @@ pub fn of_lose(shelf: Shelf, disk: usize) -> Verdict
 pub fn of_rebuild(shelf: Shelf, n: usize) -> Verdict
     ensures { λ r. ⌜ r ≡ firstBroken (rebuildRules shelf n) ⌝ }
 {
-    if !shelf.is_shelf() {
-        return Verdict::Refused(Refusal::NotAShelf);
-    }
-    if n != sizes::image_size(shelf) {
-        return Verdict::Refused(Refusal::OtherImage);
-    }
+    let verdict = of_image(shelf, n);
+    let Verdict::Accepted = verdict else {
+        return verdict;
+    };
     let loss = shelf.loss;
     if presence::is_whole(loss) {
         return Verdict::Refused(Refusal::NoneLost);
@@ -102,12 +114,10 @@ pub fn of_rebuild(shelf: Shelf, n: usize) -> Verdict
 pub fn of_place(shelf: Shelf, n: usize, disk: usize, offset: usize) -> Verdict
     ensures { λ r. ⌜ r ≡ firstBroken (placeRules shelf n disk offset) ⌝ }
 {
-    if !shelf.is_shelf() {
-        return Verdict::Refused(Refusal::NotAShelf);
-    }
-    if n != sizes::image_size(shelf) {
-        return Verdict::Refused(Refusal::OtherImage);
-    }
+    let verdict = of_image(shelf, n);
+    let Verdict::Accepted = verdict else {
+        return verdict;
+    };
     if shelf.v <= disk {
         return Verdict::Refused(Refusal::OutOfRange);
     }

@@ -2,10 +2,10 @@
 ghost use mathlib.Core.Path.{_≡_};
 ghost use mathlib.Core.Bool.{cond};
 ghost use Prim.Native.Nat.{_+_, _*_, _<_};
-ghost use Rattle.placement.specs.Layout.{layoutIn, addresses, stripeOf, jOf};
+ghost use Rattle.placement.specs.Layout.{layoutIn, stripeOf, jOf};
 ghost use Rattle.parity.specs.Units.{unitAt};
 ghost use Rattle.parity.specs.Stripe.{unitSize, depth, unitIn, present, cell};
-ghost use Rattle.parity.specs.Shapes.{Held};
+ghost use Rattle.parity.specs.inner.Shapes.{Held, UnitCall};
 use crate::presence;
 use crate::sizes;
 use design::Shelf;
@@ -24,8 +24,7 @@ pub fn part(shelf: Shelf, image: &[u8], disk: usize, offset: usize) -> &[u8]
 
 // The unit of an address, or the other buffer where its disk is lost.
 pub fn shown<'a>(shelf: Shelf, image: &'a [u8], address: usize, other: &'a [u8]) -> &'a [u8]
-    requires { ⌜ Held shelf (now image) ⌝ }
-    requires { ⌜ address < addresses (layoutIn shelf) ⌝ }
+    requires { ⌜ UnitCall shelf (now image) address (now other) ⌝ }
     ensures { λ r. ⌜ now r ≡ cond (present shelf (unitIn shelf (stripeOf (layoutIn shelf) address) (jOf (layoutIn shelf) address))) (cell shelf (now (image .entry)) (stripeOf (layoutIn shelf) address) (jOf (layoutIn shelf) address)) (now (other .entry)) ⌝ }
 {
     let spot = fast::spot(shelf, address);

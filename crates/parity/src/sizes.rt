@@ -1,9 +1,11 @@
-// The sizes of a shelf's image.
+// The sizes of a shelf's image, and the numbers by which its units are found.
 ghost use mathlib.Core.Path.{_≡_};
 ghost use mathlib.Core.Bool.{true};
+ghost use Prim.Native.Nat.{_*_};
 ghost use Rattle.design.specs.Shelf.{isShelf};
 ghost use Rattle.parity.specs.Stripe.{unitSize, imageSize};
-ghost use Rattle.parity.specs.Shapes.{shapeIn};
+ghost use Rattle.parity.specs.inner.Stores.{Ranked};
+ghost use Rattle.parity.specs.inner.Shapes.{shapeIn};
 use crate::Shape;
 use design::Shelf;
 use placement::fast;
@@ -35,4 +37,13 @@ pub fn shape_of(shelf: Shelf) -> Shape
         depth: fast::offsets(shelf),
         size: unit_size(shelf),
     }
+}
+
+// For each entry of the table, how many before it have the same disk.
+pub fn ranks_of(shelf: Shelf) -> [u16; 2048]
+    requires { ⌜ isShelf shelf ≡ true ⌝ }
+    ensures { λ r. ⌜ Ranked (shelf .table) (shelf .b * shelf .k) r ⌝ }
+{
+    let table = shelf.table;
+    fast::ranks(&table, shelf.b * shelf.k)
 }

@@ -1,6 +1,5 @@
 // Reading and writing the units of one stripe, for calls that have passed their rules.
 ghost use mathlib.Core.Path.{_≡_};
-ghost use mathlib.Core.Logic.{_≢_};
 ghost use mathlib.Core.Bool.{true};
 ghost use Prim.Native.Nat.{_+_, _*_, _≤_, _<_};
 ghost use lib.ListN.{length};
@@ -8,10 +7,10 @@ ghost use Rattle.design.specs.declared.Verdict.the-variants.{Accepted};
 ghost use Rattle.design.specs.Shelf.{isShelf};
 ghost use Rattle.placement.specs.Layout.{layoutIn, addresses, stripeOf, jOf};
 ghost use Rattle.parity.specs.Units.{unitAt, xorU};
-ghost use Rattle.parity.specs.Stripe.{unitSize, others};
+ghost use Rattle.parity.specs.Stripe.{others};
 ghost use Rattle.parity.specs.Calls.{costs, fetched, readCost, unitWritten, writeReads, writeWrites};
-ghost use Rattle.parity.specs.Stores.{putUnit};
-ghost use Rattle.parity.specs.Shapes.{Held, numbersIn, resealed};
+ghost use Rattle.parity.specs.inner.Stores.{putUnit};
+ghost use Rattle.parity.specs.inner.Shapes.{UnitCall, numbersIn, resealed};
 use crate::Cost;
 use crate::presence;
 use crate::sizes;
@@ -41,8 +40,7 @@ fn numbers_of(shelf: Shelf, address: usize) -> Numbers
 
 // The unit of an address, from its place or from the other units of its stripe; how many units were read.
 pub fn fetch(shelf: Shelf, image: &[u8], address: usize, buffer: &mut [u8]) -> usize
-    requires { ⌜ Held shelf (now image) ⌝ }
-    requires { ⌜ (address < addresses (layoutIn shelf)) × (length (now buffer) ≡ unitSize shelf) ⌝ }
+    requires { ⌜ UnitCall shelf (now image) address (now buffer) ⌝ }
     ensures { λ r. ⌜ (r ≡ readCost shelf (stripeOf (layoutIn shelf) address) (jOf (layoutIn shelf) address)) × (now (buffer .exit) ≡ fetched shelf (now (image .entry)) (stripeOf (layoutIn shelf) address) (jOf (layoutIn shelf) address)) ⌝ }
 {
     let at = numbers_of(shelf, address);
@@ -57,13 +55,12 @@ pub fn fetch(shelf: Shelf, image: &[u8], address: usize, buffer: &mut [u8]) -> u
 
 // The unit of an address whose disk is lost. The places of all entries of the table are found in one pass.
 fn fetch_lost(shelf: Shelf, image: &[u8], address: usize, buffer: &mut [u8])
-    requires { ⌜ Held shelf (now image) ⌝ }
-    requires { ⌜ (address < addresses (layoutIn shelf)) × (length (now buffer) ≡ unitSize shelf) ⌝ }
+    requires { ⌜ UnitCall shelf (now image) address (now buffer) ⌝ }
     ensures { λ _. ⌜ now (buffer .exit) ≡ others shelf (now (image .entry)) (stripeOf (layoutIn shelf) address) (jOf (layoutIn shelf) address) ⌝ }
 {
     let k = shelf.k;
     let table = shelf.table;
-    let ranks = fast::ranks(&table, shelf.b * k);
+    let ranks = sizes::ranks_of(shelf);
     let shape = sizes::shape_of(shelf);
     let s = address / (k - 1);
     let j = address % (k - 1);
@@ -72,8 +69,7 @@ fn fetch_lost(shelf: Shelf, image: &[u8], address: usize, buffer: &mut [u8])
 
 // Data and parity; the parity alone, where the data disk is lost; the data alone, where the parity disk is.
 pub fn store(shelf: Shelf, image: &mut [u8], address: usize, unit: &[u8]) -> Cost
-    requires { ⌜ Held shelf (now image) ⌝ }
-    requires { ⌜ (address < addresses (layoutIn shelf)) × (length (now unit) ≡ unitSize shelf) ⌝ }
+    requires { ⌜ UnitCall shelf (now image) address (now unit) ⌝ }
     ensures { λ r. ⌜ (r ≡ costs Accepted (writeReads shelf (stripeOf (layoutIn shelf) address) (jOf (layoutIn shelf) address)) (writeWrites shelf (stripeOf (layoutIn shelf) address) (jOf (layoutIn shelf) address))) × (now (image .exit) ≡ unitWritten shelf (now (image .entry)) (stripeOf (layoutIn shelf) address) (jOf (layoutIn shelf) address) (now (unit .entry))) ⌝ }
 {
     let at = numbers_of(shelf, address);
@@ -105,13 +101,12 @@ pub fn store(shelf: Shelf, image: &mut [u8], address: usize, unit: &[u8]) -> Cos
 
 // The parity alone holds the unit of an address whose disk is lost.
 fn store_lost(shelf: Shelf, image: &mut [u8], address: usize, unit: &[u8])
-    requires { ⌜ Held shelf (now image) ⌝ }
-    requires { ⌜ (address < addresses (layoutIn shelf)) × (length (now unit) ≡ unitSize shelf) ⌝ }
+    requires { ⌜ UnitCall shelf (now image) address (now unit) ⌝ }
     ensures { λ _. ⌜ now (image .exit) ≡ resealed shelf (now (image .entry)) (stripeOf (layoutIn shelf) address) (jOf (layoutIn shelf) address) (now (unit .entry)) ⌝ }
 {
     let k = shelf.k;
     let table = shelf.table;
-    let ranks = fast::ranks(&table, shelf.b * k);
+    let ranks = sizes::ranks_of(shelf);
     let shape = sizes::shape_of(shelf);
     let s = address / (k - 1);
     let j = address % (k - 1);
@@ -120,7 +115,7 @@ fn store_lost(shelf: Shelf, image: &mut [u8], address: usize, unit: &[u8])
 
 // Unit n becomes the lent one, and the parity changes by the old and the new.
 fn renew(image: &mut [u8], n: usize, parity: usize, unit: &[u8])
-    requires { ⌜ (n * length (now unit) + length (now unit) ≤ length (now image)) × (parity * length (now unit) + length (now unit) ≤ length (now image)) × (parity ≢ n) ⌝ }
+    requires { ⌜ (n * length (now unit) + length (now unit) ≤ length (now image)) × (parity * length (now unit) + length (now unit) ≤ length (now image)) ⌝ }
     ensures { λ _. ⌜ now (image .exit) ≡ putUnit (length (now (unit .entry))) (putUnit (length (now (unit .entry))) (now (image .entry)) parity (xorU (unitAt (length (now (unit .entry))) (now (image .entry)) parity) (xorU (unitAt (length (now (unit .entry))) (now (image .entry)) n) (now (unit .entry))))) n (now (unit .entry)) ⌝ }
 {
     units::mix_both(image, parity, n, unit);

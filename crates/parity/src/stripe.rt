@@ -5,8 +5,8 @@ ghost use Prim.Native.Nat.{_+_, _-_, _*_, _≤_, _<_};
 ghost use lib.Dec.{ltb, eqb};
 ghost use lib.ListN.{length};
 ghost use Rattle.parity.specs.Units.{zeros, unitAt, xorSum};
-ghost use Rattle.parity.specs.Stores.{putUnit};
-ghost use Rattle.parity.specs.Sums.{Placed, numberBy, sumWith};
+ghost use Rattle.parity.specs.inner.Stores.{putUnit, Reckoned};
+ghost use Rattle.parity.specs.inner.Sums.{Placed, numberBy, sumWith};
 use crate::Shape;
 use crate::bytes;
 use crate::units;
@@ -141,8 +141,7 @@ pub fn seal(image: &mut [u8], n: usize, buffer: &[u8], size: usize, count: usize
 }
 
 pub fn number(table: &[u8; 2048], ranks: &[u16; 2048], shape: Shape, s: usize, i: usize) -> usize
-    requires { ⌜ (2 ≤ shape .k) × (1 ≤ shape .b) × (shape .b * shape .k ≤ 2048) × (i < shape .k) ⌝ }
-    requires { ⌜ (shape .depth ≤ 134215680) × (s ≤ 134215680) × (shape .r ≤ 1024) ⌝ }
+    requires { ⌜ Reckoned (shape .k) (shape .b) (shape .r) (shape .depth) s i ⌝ }
     ensures { λ n. ⌜ n ≡ numberBy (now (table .entry)) (now (ranks .entry)) shape s i ⌝ }
 {
     units::number(table, ranks, shape.k, shape.b, shape.r, shape.depth, s, i)

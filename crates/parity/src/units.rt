@@ -1,10 +1,9 @@
 // Units of the image, by their numbers.
 ghost use mathlib.Core.Path.{_≡_};
-ghost use mathlib.Core.Logic.{_≢_};
 ghost use Prim.Native.Nat.{_+_, _*_, _≤_, _<_};
 ghost use lib.ListN.{length};
 ghost use Rattle.parity.specs.Units.{zeros, unitAt, xorU};
-ghost use Rattle.parity.specs.Stores.{putUnit, numberIn};
+ghost use Rattle.parity.specs.inner.Stores.{putUnit, numberIn, Reckoned};
 use crate::bytes;
 
 pub fn clear_unit(image: &mut [u8], n: usize, size: usize)
@@ -54,19 +53,8 @@ pub fn mix_out(unit: &mut [u8], image: &[u8], n: usize)
     bytes::mix(unit, &image[at..at + size]);
 }
 
-// Mixes unit `from` into unit `to`: the loop that a rebuild spends its time in.
-pub fn mix_within(image: &mut [u8], to: usize, from: usize, size: usize)
-    requires { ⌜ (to * size + size ≤ length (now image)) × (from * size + size ≤ length (now image)) × (to ≢ from) ⌝ }
-    ensures { λ _. ⌜ now (image .exit) ≡ putUnit size (now (image .entry)) to (xorU (unitAt size (now (image .entry)) to) (unitAt size (now (image .entry)) from)) ⌝ }
-{
-    let a = to * size;
-    let b = from * size;
-    for i in 0..size {
-        image[a + i] = image[a + i] ^ image[b + i];
-    }
-}
-
-// Unit `to` becomes the exclusive-or of units x and y, in one pass.
+// Unit `to` becomes the exclusive-or of units x and y, in one pass: the loop that a rebuild spends its time in. Unit `to` may be one of
+// them.
 pub fn join(image: &mut [u8], to: usize, x: usize, y: usize, size: usize)
     requires { ⌜ (to * size + size ≤ length (now image)) × (x * size + size ≤ length (now image)) × (y * size + size ≤ length (now image)) ⌝ }
     ensures { λ _. ⌜ now (image .exit) ≡ putUnit size (now (image .entry)) to (xorU (unitAt size (now (image .entry)) x) (unitAt size (now (image .entry)) y)) ⌝ }
@@ -77,6 +65,14 @@ pub fn join(image: &mut [u8], to: usize, x: usize, y: usize, size: usize)
     for i in 0..size {
         image[a + i] = image[b + i] ^ image[c + i];
     }
+}
+
+// Mixes unit `from` into unit `to`.
+pub fn mix_within(image: &mut [u8], to: usize, from: usize, size: usize)
+    requires { ⌜ (to * size + size ≤ length (now image)) × (from * size + size ≤ length (now image)) ⌝ }
+    ensures { λ _. ⌜ now (image .exit) ≡ putUnit size (now (image .entry)) to (xorU (unitAt size (now (image .entry)) to) (unitAt size (now (image .entry)) from)) ⌝ }
+{
+    join(image, to, to, from, size);
 }
 
 // Mixes unit `from` and a lent unit into unit `to`, in one pass.
@@ -103,8 +99,7 @@ pub fn number(
     s: usize,
     i: usize,
 ) -> usize
-    requires { ⌜ (2 ≤ k) × (1 ≤ b) × (b * k ≤ 2048) × (i < k) ⌝ }
-    requires { ⌜ (depth ≤ 134215680) × (s ≤ 134215680) × (r ≤ 1024) ⌝ }
+    requires { ⌜ Reckoned k b r depth s i ⌝ }
     ensures { λ n. ⌜ n ≡ numberIn (now (table .entry)) (now (ranks .entry)) k b r depth s i ⌝ }
 {
     let row = s / b;

@@ -22,7 +22,7 @@ use Rattle.parity.specs.declared.Rebuilding.{Rebuilding}
 use Rattle.parity.specs.Units.{unitAt}
 use Rattle.parity.specs.Stripe.{unitSize, units, imageSize, unitIn, stripeHere, indexHere, present}
 use Rattle.parity.proofs.By.{by-accepted}
-use Rattle.parity.specs.Shapes.{Held}
+use Rattle.parity.specs.inner.Shapes.{Held}
 use Rattle.parity.proofs.Accepted.{call-stripe-lt, call-data-lt}
 use Rattle.parity.proofs.Home.{stripe-home, index-home, unit-home}
 use Rattle.parity.proofs.Put.{unit-byte}

@@ -1,23 +1,18 @@
 -- "Two such sequences on one sheet, ending with no disk lost and having the same accepted writes in the same order at each
 -- address, end with equal images, wherever the losses fell." Assumes nothing.
 use mathlib.Core.Path.{_≡_, refl, sym, ap, _∙_}
-use mathlib.Core.Logic.{_≢_}
 use mathlib.Core.List.{List}
 use Prim.Native.Nat.{ℕ, _+_, _-_, _*_, _<_}
-use native.Mathlib.Omega.{arith}
 use lib.Arith.{digits-lt}
-use lib.Dec.{eqb}
 use lib.ListN.{length}
-use borrow.Author.Tests.{eqb-false}
 use Rattle.design.specs.declared.Loss.the-variants.{Nothing}
 use Rattle.design.specs.declared.Shelf.{Shelf}
 use Rattle.placement.specs.Layout.{layoutIn, stripes, addresses}
 use Rattle.parity.specs.Units.{zeros}
 use Rattle.parity.specs.Stripe.{unitSize}
 use Rattle.parity.specs.Calls.{withLoss}
-use Rattle.parity.proofs.Cases.{cases}
-use Rattle.parity.proofs.Xor.{xorSum-ext}
-use Rattle.parity.proofs.Memory.{dataOf, asked, Keeps, memory-determines}
+use Rattle.parity.proofs.Memory.{dataOf, Keeps, memory-determines}
+use Rattle.parity.proofs.Remembered.{asked-same}
 use Rattle.sequences.specs.Sequence.{Event, State, Run, shelfFrom}
 use Rattle.sequences.specs.Written.{written, lastOr, lastWritten}
 use Rattle.sequences.proofs.Shelves.{run-shelf, run-loss}
@@ -30,17 +25,11 @@ module _ (h : Shelf) (memory memory′ : ℕ → List ℕ) (same : (a : ℕ) →
   unfolding dataOf
   data-same s i hs hi = same (s * (h .k - 1) + i) (digits-lt hs hi)
 
-  asked-same : (s i : ℕ) → s < stripes (layoutIn h) → i < h .k → asked h memory s i ≡ asked h memory′ s i
-  unfolding asked
-  asked-same s i hs hi = cases (eqb i (h .k - 1))
-      (λ e. rw e (xorSum-ext (unitSize h) (dataOf h memory s) (dataOf h memory′ s) (h .k - 1) (λ j hj. data-same s j hs hj)))
-      (λ e. let ne : i ≢ h .k - 1 = eqb-false i (h .k - 1) e in rw e (data-same s i hs (omega arith)))
-
   keeps-same : (image : List ℕ) → Keeps h image memory → ((a : ℕ) → length (memory′ a) ≡ unitSize h) → Keeps h image memory′
   keeps-same image K sized = record {
     stored = K .stored;
     sized = sized;
-    same = λ s i hs hi p. K .same s i hs hi p ∙ asked-same s i hs hi;
+    same = λ s i hs hi p. K .same s i hs hi p ∙ asked-same h memory′ memory s (λ j hj. data-same s j hs hj) i hi;
   }
 
 -- ---- the end of a sequence

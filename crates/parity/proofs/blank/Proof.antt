@@ -1,7 +1,6 @@
 -- `parity::blank` meets its contract: what is left is as the verdict says. Assumes nothing.
-use mathlib.Core.Path.{sym, _∙_}
 use borrow.Author.Needs.{needs}
-use Rattle.parity.proofs.By.{by-accepted, by-refused}
+use Rattle.parity.proofs.By.{accepted-gives, refused-gives}
 use Rattle.parity.proofs.blank.Statement.{statement}
 use Rattle.parity.proofs.blank.Tie as tie
 
@@ -17,7 +16,7 @@ enum-told-2 c = search needs
 returns : tie.Need-returns
 returns c =
     let judged = c .before .before .of-whole .ensures in
-    record { answers = judged; leaves = sym (by-refused _ _ (sym judged ∙ c .enum-told2 .given .1)) }
+    record { answers = judged; leaves = refused-gives _ _ judged (c .enum-told2 .given .1) }
 
 clear-requires : tie.Need-clear-requires
 clear-requires c κs = search needs
@@ -29,10 +28,7 @@ returns-2 : tie.Need-returns-2
 returns-2 c =
     let told = c .before .before .before .before in
     let judged = told .before .before .of-whole .ensures in
-    record {
-      answers = judged;
-      leaves = c .before .before .clear .ensures ∙ sym (by-accepted _ _ (sym judged ∙ told .enum-told .given .1));
-    }
+    record { answers = judged; leaves = accepted-gives _ _ judged (told .enum-told .given .1) (c .before .before .clear .ensures) }
 
 pub blank-spec : {M : Type 1} → statement M
 blank-spec =

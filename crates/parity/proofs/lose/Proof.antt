@@ -7,7 +7,7 @@ use Rattle.design.specs.declared.Verdict.{Verdict}
 use Rattle.design.proofs.Tests.{shelf-parts}
 use Rattle.parity.specs.declared.Losing.{Losing}
 use Rattle.parity.specs.Calls.{lost}
-use Rattle.parity.proofs.By.{by-accepted, by-refused}
+use Rattle.parity.proofs.By.{accepted-gives, refused-gives}
 use Rattle.parity.proofs.Accepted.{lose-accepted}
 use Rattle.parity.proofs.lose.Statement.{statement}
 use Rattle.parity.proofs.lose.Tie as tie
@@ -28,7 +28,7 @@ returns : tie.Need-returns
 unfolding lost
 returns c =
     let judged = c .before .before .of-lose .ensures in
-    ap₂ losing judged (sym (by-refused _ _ (sym judged ∙ c .enum-told2 .given .1)))
+    ap₂ losing judged (refused-gives _ _ judged (c .enum-told2 .given .1))
 
 -- an accepted disk is below v, so its number fits a byte
 cast-t5 : tie.Need-cast-t5
@@ -43,7 +43,7 @@ returns-2 : tie.Need-returns-2
 unfolding lost
 returns-2 c =
     let judged = c .before .before .before .of-lose .ensures in
-    ap₂ losing judged (c .with-loss .ensures ∙ sym (by-accepted _ _ (sym judged ∙ c .before .enum-told .given .1)))
+    ap₂ losing judged (accepted-gives _ _ judged (c .before .enum-told .given .1) (c .with-loss .ensures))
 
 pub lose-spec : {M : Type 1} → statement M
 lose-spec =

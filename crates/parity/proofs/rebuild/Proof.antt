@@ -6,7 +6,7 @@ use borrow.Author.Needs.{needs}
 use Rattle.design.specs.declared.Shelf.{Shelf}
 use Rattle.design.specs.declared.Verdict.{Verdict}
 use Rattle.parity.specs.declared.Rebuilding.{Rebuilding}
-use Rattle.parity.proofs.By.{by-accepted, by-refused}
+use Rattle.parity.proofs.By.{accepted-gives, refused-gives}
 use Rattle.parity.proofs.Accepted.{LostCall, rebuild-accepted}
 use Rattle.parity.proofs.rebuild.Statement.{statement}
 use Rattle.parity.proofs.rebuild.Tie as tie
@@ -33,10 +33,10 @@ enum-told-2 c = search needs
 returns : tie.Need-returns
 returns c =
     let judged = c .before .before .of-rebuild .ensures in
-    let refused = sym judged ∙ c .enum-told2 .given .1 in
+    let refused = c .enum-told2 .given .1 in
     record {
-      answers = same-answer judged (sym (by-refused _ _ refused)) (sym (by-refused _ _ refused));
-      leaves = sym (by-refused _ _ refused);
+      answers = same-answer judged (refused-gives _ _ judged refused) (refused-gives _ _ judged refused);
+      leaves = refused-gives _ _ judged refused;
     }
 
 restore-disk-requires : tie.Need-restore-disk-requires
@@ -56,10 +56,10 @@ returns-2 c =
     let stored = c .before .before .before .before in
     let told = stored .before .before in
     let judged = told .before .before .of-rebuild .ensures in
-    let passed = sym judged ∙ told .enum-told .given .1 in
+    let passed = told .enum-told .given .1 in
     record {
-      answers = same-answer judged (c .with-loss .ensures ∙ sym (by-accepted _ _ passed)) (c .before .counts .ensures ∙ sym (by-accepted _ _ passed));
-      leaves = stored .restore-disk .ensures ∙ sym (by-accepted _ _ passed);
+      answers = same-answer judged (accepted-gives _ _ judged passed (c .with-loss .ensures)) (accepted-gives _ _ judged passed (c .before .counts .ensures));
+      leaves = accepted-gives _ _ judged passed (stored .restore-disk .ensures);
     }
 
 pub rebuild-spec : {M : Type 1} → statement M

@@ -5,7 +5,7 @@ use borrow.Author.Needs.{needs}
 use Rattle.design.specs.declared.Verdict.{Verdict}
 use Rattle.parity.specs.declared.Scrubbing.{Scrubbing}
 use Rattle.parity.specs.Calls.{scrubbed}
-use Rattle.parity.proofs.By.{by-accepted, by-refused}
+use Rattle.parity.proofs.By.{accepted-gives, refused-gives}
 use Rattle.parity.proofs.Accepted.{whole-accepted}
 use Rattle.parity.proofs.scrub.Statement.{statement}
 use Rattle.parity.proofs.scrub.Tie as tie
@@ -26,7 +26,7 @@ returns : tie.Need-returns
 unfolding scrubbed
 returns c =
     let judged = c .before .before .of-whole .ensures in
-    ap₂ scrubbing judged (sym (by-refused _ _ (sym judged ∙ c .enum-told2 .given .1)))
+    ap₂ scrubbing judged (refused-gives _ _ judged (c .enum-told2 .given .1))
 
 count-wrong-requires : tie.Need-count-wrong-requires
 count-wrong-requires c κs =
@@ -37,7 +37,7 @@ returns-2 : tie.Need-returns-2
 unfolding scrubbed
 returns-2 c =
     let judged = c .before .before .before .of-whole .ensures in
-    ap₂ scrubbing judged (c .count-wrong .ensures ∙ sym (by-accepted _ _ (sym judged ∙ c .before .enum-told .given .1)))
+    ap₂ scrubbing judged (accepted-gives _ _ judged (c .before .enum-told .given .1) (c .count-wrong .ensures))
 
 pub scrub-spec : {M : Type 1} → statement M
 scrub-spec = tie.close (tie.spec of-whole-requires enum-told enum-told-2 returns count-wrong-requires returns-2)

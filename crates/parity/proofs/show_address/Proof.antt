@@ -1,11 +1,8 @@
 -- `parity::show_address` meets its contract: the part handed out is as the verdict says. Assumes nothing.
-use mathlib.Core.Path.{_≡_, sym, _∙_}
-use lib.ListN.{length}
+use mathlib.Core.Path.{sym, _∙_}
 use borrow.Author.Needs.{needs}
-use Rattle.design.specs.declared.Verdict.the-variants.{Accepted}
-use Rattle.design.specs.Refusals.{firstBroken}
-use Rattle.parity.specs.Calls.{unitRules, addressShown}
-use Rattle.parity.proofs.By.{by-accepted, by-refused}
+use Rattle.parity.specs.Calls.{addressShown}
+use Rattle.parity.proofs.By.{accepted-gives, refused-gives}
 use Rattle.parity.proofs.Accepted.{unit-accepted}
 use Rattle.parity.proofs.show_address.Statement.{statement}
 use Rattle.parity.proofs.show_address.Tie as tie
@@ -26,20 +23,14 @@ returns : tie.Need-returns
 unfolding addressShown
 returns c =
     let told = c .before in
-    sym (by-refused _ _ (sym (told .before .before .of-unit .ensures) ∙ told .enum-told2 .given .1))
-
-accepted : (c : tie.After-enum-told) → let args = c .before .before .before .before .before .args in
-    firstBroken (unitRules (args .shelf) (length (args .image .now)) (args .address) (length (args .other .now))) ≡ Accepted
-accepted c = sym (c .before .before .of-unit .ensures) ∙ c .enum-told .given .1
+    refused-gives _ _ (told .before .before .of-unit .ensures) (told .enum-told2 .given .1)
 
 shown-requires : tie.Need-shown-requires
-shown-requires c κs =
-    let w = unit-accepted _ (c .before .before .before .before .before .args .image .now) _ (c .before .before .before .before .before .args .other .now) .0 (accepted c) in
-    (w .stored, w .address)
+shown-requires c κs = unit-accepted _ _ _ _ .0 (sym (c .before .before .of-unit .ensures) ∙ c .enum-told .given .1)
 
 returns-2 : tie.Need-returns-2
 unfolding addressShown
-returns-2 c = c .shown .ensures ∙ sym (by-accepted _ _ (accepted (c .before)))
+returns-2 c = accepted-gives _ _ (c .before .before .before .of-unit .ensures) (c .before .enum-told .given .1) (c .shown .ensures)
 
 pub show-address-spec : {M : Type 1} → statement M
 show-address-spec =

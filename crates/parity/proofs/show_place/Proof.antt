@@ -1,11 +1,8 @@
 -- `parity::show_place` meets its contract: the part handed out is as the verdict says. Assumes nothing.
-use mathlib.Core.Path.{_≡_, sym, _∙_}
-use lib.ListN.{length}
+use mathlib.Core.Path.{sym, _∙_}
 use borrow.Author.Needs.{needs}
-use Rattle.design.specs.declared.Verdict.the-variants.{Accepted}
-use Rattle.design.specs.Refusals.{firstBroken}
-use Rattle.parity.specs.Calls.{placeRules, placeShown}
-use Rattle.parity.proofs.By.{by-accepted, by-refused}
+use Rattle.parity.specs.Calls.{placeShown}
+use Rattle.parity.proofs.By.{accepted-gives, refused-gives}
 use Rattle.parity.proofs.Accepted.{show-place-accepted}
 use Rattle.parity.proofs.show_place.Statement.{statement}
 use Rattle.parity.proofs.show_place.Tie as tie
@@ -26,20 +23,17 @@ returns : tie.Need-returns
 unfolding placeShown
 returns c =
     let told = c .before in
-    sym (by-refused _ _ (sym (told .before .before .of-place .ensures) ∙ told .enum-told2 .given .1))
-
-accepted : (c : tie.After-enum-told) → let args = c .before .before .before .before .args in
-    firstBroken (placeRules (args .shelf) (length (args .image .now)) (args .disk) (args .offset)) ≡ Accepted
-accepted c = sym (c .before .before .of-place .ensures) ∙ c .enum-told .given .1
+    refused-gives _ _ (told .before .before .of-place .ensures) (told .enum-told2 .given .1)
 
 part-requires : tie.Need-part-requires
 part-requires c κs =
-    let w = show-place-accepted _ (c .before .before .before .before .args .image .now) _ _ .0 (accepted c) in
+    let image = c .before .before .before .before .args .image .now in
+    let w = show-place-accepted _ image _ _ .0 (sym (c .before .before .of-place .ensures) ∙ c .enum-told .given .1) in
     (w .stored, (w .disk, w .offset))
 
 returns-2 : tie.Need-returns-2
 unfolding placeShown
-returns-2 c = c .part .ensures ∙ sym (by-accepted _ _ (accepted (c .before)))
+returns-2 c = accepted-gives _ _ (c .before .before .before .of-place .ensures) (c .before .enum-told .given .1) (c .part .ensures)
 
 pub show-place-spec : {M : Type 1} → statement M
 show-place-spec =

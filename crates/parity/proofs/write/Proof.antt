@@ -1,6 +1,8 @@
 -- `parity::write` meets its contract: what it gives and leaves is as the verdict says. Assumes nothing.
+use mathlib.Core.Path.{sym, _∙_}
 use borrow.Author.Needs.{needs}
-use Rattle.parity.proofs.UnitCalls.{accepted-asks, write-refused, write-accepted}
+use Rattle.parity.proofs.By.{accepted-gives, refused-gives, cost-none}
+use Rattle.parity.proofs.Accepted.{unit-accepted}
 use Rattle.parity.proofs.write.Statement.{statement}
 use Rattle.parity.proofs.write.Tie as tie
 
@@ -15,14 +17,12 @@ enum-told-2 c = search needs
 
 returns : tie.Need-returns
 returns c =
-    let a = c .before .before .before .before .before .args in
-    write-refused (a .shelf) (a .image .now) (a .address) (a .unit .now) (c .before .before .of-unit .ensures) (c .enum-told2 .given .1)
+    let judged = c .before .before .of-unit .ensures in
+    let refused = c .enum-told2 .given .1 in
+    record { answers = cost-none _ _ judged refused; leaves = refused-gives _ _ judged refused }
 
 store-requires : tie.Need-store-requires
-store-requires c κs =
-    let told = c .before in
-    let a = told .before .before .before .before .before .args in
-    accepted-asks (a .shelf) (a .image .now) (a .address) (a .unit .now) (told .before .before .of-unit .ensures) (told .enum-told .given .1)
+store-requires c κs = unit-accepted _ _ _ _ .0 (sym (c .before .before .before .of-unit .ensures) ∙ c .before .enum-told .given .1)
 
 same-length : tie.Need-same-length
 same-length c = search needs
@@ -30,8 +30,10 @@ same-length c = search needs
 returns-2 : tie.Need-returns-2
 returns-2 c =
     let told = c .before .before .before .before in
-    let a = told .before .before .before .before .before .args in
-    write-accepted (a .shelf) (a .image .now) (a .address) (a .unit .now) (told .before .before .of-unit .ensures) (told .enum-told .given .1) (c .before .before .store .ensures)
+    let judged = told .before .before .of-unit .ensures in
+    let passed = told .enum-told .given .1 in
+    let done = c .before .before .store .ensures in
+    record { answers = rw (sym judged ∙ passed) (done .0); leaves = accepted-gives _ _ judged passed (done .1) }
 
 pub write-spec : {M : Type 1} → statement M
 write-spec =

@@ -7,7 +7,7 @@ use native.Mathlib.Omega.{arith}
 use lib.ListN.{length, set, length-set}
 use borrow.Author.Needs.{needs}
 use Rattle.layout.specs.Text.{digit, decimal}
-use Rattle.layout.specs.Steps.{put}
+use Rattle.layout.specs.inner.Steps.{put}
 use Rattle.layout.proofs.Puts.{put-last, put-byte}
 use Rattle.layout.proofs.Decimals.{decimal-one, decimal-more, decimal-next}
 use Rattle.layout.proofs.digits.number.Statement.{statement}

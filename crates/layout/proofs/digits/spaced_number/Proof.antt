@@ -3,7 +3,7 @@ use mathlib.Core.List.{[], _∷_}
 use native.Mathlib.Omega.{arith}
 use lib.ListN.{length-set}
 use Rattle.layout.specs.Text.{space, decimal, spaced}
-use Rattle.layout.specs.Steps.{Put}
+use Rattle.layout.specs.inner.Steps.{Put}
 use Rattle.layout.proofs.Puts.{kept-length, put-one, put-then}
 use Rattle.layout.proofs.digits.spaced_number.Statement.{statement}
 use Rattle.layout.proofs.digits.spaced_number.Tie as tie

@@ -8,7 +8,7 @@ use native.Mathlib.Omega.{arith}
 use lib.Dec.{ltb}
 use borrow.Author.Tests.{lt-ltb, le-ltb}
 use Rattle.layout.specs.Text.{joined}
-use Rattle.layout.specs.Steps.{Fits, Put, entryWord, dataWords}
+use Rattle.layout.specs.inner.Steps.{Fits, Put, entryWord, dataWords}
 use Rattle.layout.proofs.Puts.{kept-length, put-nothing, put-then, fits-rest}
 use Rattle.layout.proofs.Lengths.{joined-next, joined-le}
 use Rattle.layout.proofs.write.data.Statement.{statement}

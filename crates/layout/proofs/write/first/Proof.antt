@@ -5,7 +5,7 @@ use native.Mathlib.Omega.{arith}
 use Rattle.design.specs.declared.Shelf.{Shelf}
 use Rattle.design.proofs.Tests.{shelf-parts}
 use Rattle.layout.specs.Text.{lineEnd, decimal, spaced, firstLine}
-use Rattle.layout.specs.Steps.{Fits, Put}
+use Rattle.layout.specs.inner.Steps.{Fits, Put}
 use Rattle.layout.proofs.Puts.{kept-length, put-then, fits-front, fits-rest}
 use Rattle.layout.proofs.Lengths.{first-most}
 use Rattle.layout.proofs.write.first.Statement.{statement}

@@ -6,7 +6,7 @@ use native.Mathlib.Omega.{arith}
 use Rattle.placement.specs.declared.fast.Split.{Split}
 use Rattle.placement.specs.Layout.{splitOf}
 use Rattle.layout.specs.Text.{lineEnd, decimal}
-use Rattle.layout.specs.Steps.{Fits, Put, entryWord, dataWords, baseOf, rankedLine}
+use Rattle.layout.specs.inner.Steps.{Fits, Put, entryWord, dataWords, baseOf, rankedLine}
 use Rattle.layout.proofs.Puts.{kept-length, put-then, fits-front, fits-rest}
 use Rattle.layout.proofs.Splitting.{Small, small}
 use Rattle.layout.proofs.write.line.Statement.{statement}

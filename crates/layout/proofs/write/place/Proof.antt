@@ -4,7 +4,7 @@ use Prim.Native.Nat.{ℕ, _<_}
 use native.Mathlib.Omega.{arith}
 use lib.ListN.{length}
 use borrow.Author.Needs.{needs}
-use Rattle.layout.specs.Steps.{Put, entryWord}
+use Rattle.layout.specs.inner.Steps.{Put, entryWord}
 use Rattle.layout.proofs.Puts.{kept-length}
 use Rattle.layout.proofs.Entries.{disk-fits, colon-fits, offset-fits, entry-put}
 use Rattle.layout.proofs.write.place.Statement.{statement}

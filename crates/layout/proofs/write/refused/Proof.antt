@@ -5,7 +5,7 @@ use native.Mathlib.Omega.{arith}
 use lib.ListN.{length, take}
 use lib.Seq.{sets, length-sets}
 use Rattle.layout.specs.Text.{lineEnd, decimal, spaced, refusedWord, refusedLine}
-use Rattle.layout.specs.Steps.{Fits, Put}
+use Rattle.layout.specs.inner.Steps.{Fits, Put}
 use Rattle.layout.proofs.Puts.{kept-length, put-bytes, put-then, fits-front, fits-rest}
 use Rattle.layout.proofs.Lengths.{refused-most}
 use Rattle.layout.proofs.write.refused.Statement.{statement}

@@ -9,7 +9,6 @@ use lib.Seq.{length-take-le}
 use borrow.Author.Needs.{needs}
 use Rattle.placement.specs.Layout.{layoutIn, stripes}
 use Rattle.parity.specs.Units.{isZero}
-use Rattle.parity.proofs.Ready.{entries-fit, entries-below}
 use Rattle.parity.proofs.Prepared.{Prepared, shape-small, units-placed}
 use Rattle.parity.proofs.Searching.{Searched, front-size, front-is, searched-none, found-few, searched-all, searched-wrong, searched-right}
 use Rattle.parity.proofs.checking.count_wrong.Statement.{statement}
@@ -21,28 +20,23 @@ Inv-loop shelf image table ranks shape size sum₀ found₀ s₀ s-end sum found
 abbrev μ-loop : tie.MeasureT-loop
 μ-loop shelf image table ranks shape size sum₀ found₀ s₀ s-end sum found s = s-end - s
 
-mul-ranks : tie.Need-mul-ranks Inv-loop μ-loop
-mul-ranks c = omega (arith, entries-fit _ (c .before .before .before .before .pre .shelf))
-
-ranks-requires : tie.Need-ranks-requires Inv-loop μ-loop
-ranks-requires c κs =
-    let held = c .before .before .before .before .pre in
-    (entries-fit _ (held .shelf), entries-below _ (held .shelf))
+ranks-of-requires : tie.Need-ranks-of-requires Inv-loop μ-loop
+ranks-of-requires c κs = c .before .before .pre .shelf
 
 shape-of-requires : tie.Need-shape-of-requires Inv-loop μ-loop
-shape-of-requires c κs = c .before .before .before .before .before .pre .shelf
+shape-of-requires c κs = c .before .before .before .pre .shelf
 
 stripes-requires : tie.Need-stripes-requires Inv-loop μ-loop
-stripes-requires c κs = c .before .before .before .before .before .before .pre .shelf
+stripes-requires c κs = c .before .before .before .before .pre .shelf
 
 -- ---- what is known from there on
 
 abbrev start : tie.After-shape-of Inv-loop μ-loop → tie.Start Inv-loop μ-loop
-start c = c .before .before .before .before .before .before
+start c = c .before .before .before .before
 
 ready : (c : tie.After-shape-of Inv-loop μ-loop)
-    → let a = start c .args in Prepared (a .shelf) (a .image .now) (c .before .ranks .result) (c .shape-of .result)
-ready c = record { held = start c .pre; ranked = c .before .ranks .ensures; shaped = c .shape-of .ensures }
+    → let a = start c .args in Prepared (a .shelf) (a .image .now) (c .before .ranks-of .result) (c .shape-of .result)
+ready c = record { held = start c .pre; ranked = c .before .ranks-of .ensures; shaped = c .shape-of .ensures }
 
 loop-holds : tie.Need-loop-holds Inv-loop μ-loop
 loop-holds c = (refl, searched-none _ _)
@@ -124,8 +118,7 @@ count-wrong-spec =
     (tie.spec
     Inv-loop
     μ-loop
-    mul-ranks
-    ranks-requires
+    ranks-of-requires
     shape-of-requires
     stripes-requires
     loop-holds

@@ -8,7 +8,6 @@ use lib.ListN.{length}
 use borrow.Author.Needs.{needs}
 use borrow.Rule.Slice.PartMut.{midOf}
 use Rattle.parity.proofs.Put.{part-unit, part-size}
-use Rattle.parity.proofs.Ready.{entries-fit, entries-below}
 use Rattle.parity.proofs.Prepared.{shape-deep, number-asks}
 use Rattle.parity.proofs.StripeTurns.{Task, Begun, task-short, task-exact, task-inside, task-two, begun-few, begun-none, begun-size, begun-fits, begun-put, begun-skip, begun-all, data-unit, parity-unit}
 use Rattle.parity.proofs.large.store_stripe.Statement.{statement}
@@ -21,30 +20,25 @@ Inv-loop shelf image₀ s buffer table ranks shape size loss written₀ i₀ i-e
 abbrev μ-loop : tie.MeasureT-loop
 μ-loop shelf image₀ s buffer table ranks shape size loss written₀ i₀ i-end image written i = shelf .k - 1 - i
 
-mul-ranks : tie.Need-mul-ranks Inv-loop μ-loop
-mul-ranks c = omega (arith, entries-fit _ (c .before .before .before .before .before .pre .0 .shelf))
-
-ranks-requires : tie.Need-ranks-requires Inv-loop μ-loop
-ranks-requires c κs =
-    let held = c .before .before .before .before .before .pre .0 in
-    (entries-fit _ (held .shelf), entries-below _ (held .shelf))
+ranks-of-requires : tie.Need-ranks-of-requires Inv-loop μ-loop
+ranks-of-requires c κs = c .before .before .before .pre .stored .shelf
 
 shape-of-requires : tie.Need-shape-of-requires Inv-loop μ-loop
-shape-of-requires c κs = c .before .before .before .before .before .before .pre .0 .shelf
+shape-of-requires c κs = c .before .before .before .before .pre .stored .shelf
 
 -- ---- what is known from there on
 
 abbrev start : tie.After-shape-of Inv-loop μ-loop → tie.Start Inv-loop μ-loop
-start c = c .before .before .before .before .before .before .before
+start c = c .before .before .before .before .before
 
 task : (c : tie.After-shape-of Inv-loop μ-loop)
-    → let a = start c .args in Task (a .shelf) (a .image .now) (a .s) (a .buffer .now) (c .before .ranks .result) (c .shape-of .result)
+    → let a = start c .args in Task (a .shelf) (a .image .now) (a .s) (a .buffer .now) (c .before .ranks-of .result) (c .shape-of .result)
 task c =
     let pre = start c .pre in
     record {
-      ready = record { held = pre .0; ranked = c .before .ranks .ensures; shaped = c .shape-of .ensures };
-      below = pre .1 .0;
-      exact = pre .1 .1;
+      ready = record { held = pre .stored; ranked = c .before .ranks-of .ensures; shaped = c .shape-of .ensures };
+      below = pre .stripe;
+      exact = pre .exact;
     }
 
 sub-i-end : tie.Need-sub-i-end Inv-loop μ-loop
@@ -198,8 +192,7 @@ store-stripe-spec =
     (tie.spec
     Inv-loop
     μ-loop
-    mul-ranks
-    ranks-requires
+    ranks-of-requires
     shape-of-requires
     sub-i-end
     loop-holds

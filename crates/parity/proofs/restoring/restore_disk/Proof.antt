@@ -11,7 +11,7 @@ use Rattle.placement.proofs.Even.{Even, even-shelf}
 use Rattle.placement.proofs.Bounds.{bounds}
 use Rattle.parity.specs.declared.Shape.{Shape}
 use Rattle.parity.specs.Stripe.{depth}
-use Rattle.parity.proofs.Ready.{entries-fit, entries-below}
+use Rattle.parity.proofs.Ready.{entries-fit}
 use Rattle.parity.proofs.Restores.{Restored}
 use Rattle.parity.proofs.LostUnits.{upTo, stripeFor, Prepared, rank-fits, stripe-lt, index-lt, offset-placed, restored-next, restored-start, restored-disk, none-restored}
 use Rattle.parity.proofs.restoring.restore_disk.Statement.{statement}
@@ -26,16 +26,16 @@ abbrev μ-loop : tie.MeasureT-loop
 -- ---- before the loop
 
 abbrev start : tie.After-shape-of Inv-loop μ-loop → tie.Start Inv-loop μ-loop
-start c = c .before .before .before .before .before .before .before .before .before .before .before .before
+start c = c .before .before .before .before .before .before .before .before .before .before
 
 abbrev told : tie.After-shape-of Inv-loop μ-loop → tie.After-loss Inv-loop μ-loop
-told c = c .before .before .before .before .before .before .before .before .before
+told c = c .before .before .before .before .before .before .before
 
-prepared : (c : tie.After-shape-of Inv-loop μ-loop) → Prepared (start c .args .shelf) (told c .loss .given .0 .0) (c .before .before .before .before .ranks .result) (c .before .entries .result) (c .shape-of .result)
+prepared : (c : tie.After-shape-of Inv-loop μ-loop) → Prepared (start c .args .shelf) (told c .loss .given .0 .0) (c .before .before .before .before .ranks-of .result) (c .before .entries .result) (c .shape-of .result)
 prepared c = record {
   ok = start c .pre .shelf;
   gone = told c .loss .given .1;
-  ranked = c .before .before .before .before .ranks .ensures;
+  ranked = c .before .before .before .before .ranks-of .ensures;
   listed = c .before .entries .ensures;
   shape-is = c .shape-of .ensures;
 }
@@ -49,28 +49,21 @@ enum-told c = search needs
 returns : tie.Need-returns Inv-loop μ-loop
 returns c = let s = c .before .before .before in none-restored (s .args .shelf) (s .pre .shelf) _ (s .pre .size) (c .enum-told .given .1)
 
-mul-ranks : tie.Need-mul-ranks Inv-loop μ-loop
-mul-ranks c =
-    let s = c .before .before .before .before .before .before .before in
-    omega (arith, entries-fit (s .args .shelf) (s .pre .shelf))
-
-ranks-requires : tie.Need-ranks-requires Inv-loop μ-loop
-ranks-requires c κs =
-    let s = c .before .before .before .before .before .before .before in
-    (entries-fit (s .args .shelf) (s .pre .shelf), entries-below (s .args .shelf) (s .pre .shelf))
+ranks-of-requires : tie.Need-ranks-of-requires Inv-loop μ-loop
+ranks-of-requires c κs = c .before .before .before .before .before .pre .shelf
 
 mul-entries : tie.Need-mul-entries Inv-loop μ-loop
 mul-entries c =
-    let s = c .before .before .before .before .before .before .before .before .before .before in
+    let s = c .before .before .before .before .before .before .before .before in
     omega (arith, entries-fit (s .args .shelf) (s .pre .shelf))
 
 entries-requires : tie.Need-entries-requires Inv-loop μ-loop
 entries-requires c κs =
-    let s = c .before .before .before .before .before .before .before .before .before .before in
+    let s = c .before .before .before .before .before .before .before .before in
     entries-fit (s .args .shelf) (s .pre .shelf)
 
 shape-of-requires : tie.Need-shape-of-requires Inv-loop μ-loop
-shape-of-requires c κs = c .before .before .before .before .before .before .before .before .before .before .before .pre .shelf
+shape-of-requires c κs = c .before .before .before .before .before .before .before .before .before .pre .shelf
 
 loop-holds : tie.Need-loop-holds Inv-loop μ-loop
 loop-holds c = (omega arith, restored-start (start c .args .shelf) (start c .pre .shelf) _ (start c .pre .size))
@@ -184,8 +177,7 @@ restore-disk-spec =
     enum-known-loss
     enum-told
     returns
-    mul-ranks
-    ranks-requires
+    ranks-of-requires
     mul-entries
     entries-requires
     shape-of-requires

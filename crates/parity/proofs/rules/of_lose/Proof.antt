@@ -1,13 +1,10 @@
 -- `parity::rules::of_lose` meets its contract: rule after rule, in the order of their numbers. Assumes nothing.
 use mathlib.Core.Path.{_≡_, sym, _∙_}
 use mathlib.Core.Bool.{true}
-use mathlib.Core.List.{List, _∷_}
 use borrow.Author.Needs.{needs}
 use borrow.Author.Tests.{not-true, not-false, lt-ltb, le-ltb}
-use Rattle.design.specs.declared.Verdict.{Verdict}
-use Rattle.design.specs.Refusals.{Rule, firstBroken}
-use Rattle.design.specs.Shelf.{isShelf, shelfRule}
-use Rattle.parity.specs.Calls.{loseRules, diskRule}
+use Rattle.design.specs.Shelf.{isShelf}
+use Rattle.parity.specs.Calls.{loseRules}
 use Rattle.parity.proofs.Verdicts.{none-broken, broken-here, past}
 use Rattle.parity.proofs.rules.of_lose.Statement.{statement}
 use Rattle.parity.proofs.rules.of_lose.Tie as tie
@@ -29,19 +26,17 @@ returns-2 c = past _ _ (shelf-kept (c .before .before)) (broken-here _ _ (le-ltb
 is-whole-requires : tie.Need-is-whole-requires
 is-whole-requires c κs = search needs
 
--- past the second test the verdict is that of the last rule
-ranged : (c : tie.Else2) (rules : List Rule) {v : Verdict} → v ≡ firstBroken rules
-    → let args = c .before .before .before .before .args in
-    v ≡ firstBroken (shelfRule (args .shelf) ∷ diskRule (args .shelf) (args .disk) ∷ rules)
-ranged c rules e = past _ _ (shelf-kept (c .before .before)) (past _ rules (lt-ltb _ _ (c .if2 .left)) e)
-
 returns-3 : tie.Need-returns-3
 unfolding loseRules
-returns-3 c = ranged (c .before .before) _ (broken-here _ _ (sym (c .before .is-whole .ensures) ∙ not-true _ (c .if3 .taken)))
+returns-3 c =
+    let d = c .before .before in
+    past _ _ (shelf-kept (d .before .before)) (past _ _ (lt-ltb _ _ (d .if2 .left)) (broken-here _ _ (sym (c .before .is-whole .ensures) ∙ not-true _ (c .if3 .taken))))
 
 returns-4 : tie.Need-returns-4
 unfolding loseRules
-returns-4 c = ranged (c .before .before) _ (past _ _ (sym (c .before .is-whole .ensures) ∙ not-false _ (c .if3 .left)) none-broken)
+returns-4 c =
+    let d = c .before .before in
+    past _ _ (shelf-kept (d .before .before)) (past _ _ (lt-ltb _ _ (d .if2 .left)) (past _ _ (sym (c .before .is-whole .ensures) ∙ not-false _ (c .if3 .left)) none-broken))
 
 pub of-lose-spec : {M : Type 1} → statement M
 of-lose-spec =

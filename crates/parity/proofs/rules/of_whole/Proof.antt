@@ -1,54 +1,46 @@
 -- `parity::rules::of_whole` meets its contract: rule after rule, in the order of their numbers. Assumes nothing.
 use mathlib.Core.Path.{_≡_, sym, _∙_}
-use mathlib.Core.Bool.{true}
-use mathlib.Core.List.{List, _∷_}
 use borrow.Author.Needs.{needs}
 use borrow.Author.Tests.{not-true, not-false}
-use Rattle.design.specs.declared.Verdict.{Verdict}
-use Rattle.design.specs.Refusals.{Rule, firstBroken}
-use Rattle.design.specs.Shelf.{isShelf, shelfRule}
-use Rattle.parity.specs.Calls.{wholeRules, imageRule}
-use Rattle.parity.proofs.Verdicts.{none-broken, broken-here, past, is-same, not-same}
+use Rattle.design.specs.declared.Verdict.the-variants.{Accepted}
+use Rattle.design.specs.Refusals.{firstBroken}
+use Rattle.parity.specs.Calls.{wholeRules}
+use Rattle.parity.specs.inner.Judged.{imageRules}
+use Rattle.parity.proofs.Verdicts.{none-broken, broken-here, past, past-all, broken-within}
 use Rattle.parity.proofs.rules.of_whole.Statement.{statement}
 use Rattle.parity.proofs.rules.of_whole.Tie as tie
 
-is-shelf-requires : tie.Need-is-shelf-requires
-is-shelf-requires c κs = search needs
+of-image-requires : tie.Need-of-image-requires
+of-image-requires c κs = search needs
+
+enum-told : tie.Need-enum-told
+enum-told c = search needs
+
+enum-told-2 : tie.Need-enum-told-2
+enum-told-2 c = search needs
 
 returns : tie.Need-returns
 unfolding wholeRules
-returns c = broken-here _ _ (sym (c .before .is-shelf .ensures) ∙ not-true _ (c .if1 .taken))
+returns c =
+    let judged = c .before .before .of-image .ensures in
+    judged ∙ broken-within _ (imageRules _ _) (sym judged ∙ c .enum-told2 .given .1)
 
-shelf-kept : (c : tie.Else1) → isShelf (c .before .before .args .shelf) ≡ true
-shelf-kept c = sym (c .before .is-shelf .ensures) ∙ not-false _ (c .if1 .left)
-
-image-size-requires : tie.Need-image-size-requires
-image-size-requires c κs = shelf-kept c
-
-returns-2 : tie.Need-returns-2
-unfolding wholeRules
-returns-2 c =
-    past _ _ (shelf-kept (c .before .before)) (broken-here _ _ (not-same _ (c .before .image-size .ensures) (c .if2 .taken)))
-
--- past the second test the verdict is that of the other rules
-stored : (c : tie.Else2) (rules : List Rule) {v : Verdict} → v ≡ firstBroken rules
-    → let args = c .before .before .before .before .args in
-    v ≡ firstBroken (shelfRule (args .shelf) ∷ imageRule (args .shelf) (args .n) ∷ rules)
-stored c rules e =
-    past _ _ (shelf-kept (c .before .before)) (past _ rules (is-same _ (c .before .image-size .ensures) (c .if2 .left)) e)
+-- rules 10 and 11 are kept
+image-kept : (c : tie.After-enum-told) → firstBroken (imageRules (c .before .before .before .args .shelf) (c .before .before .before .args .n)) ≡ Accepted
+image-kept c = sym (c .before .before .of-image .ensures) ∙ c .enum-told .given .1
 
 is-whole-requires : tie.Need-is-whole-requires
 is-whole-requires c κs = search needs
 
+returns-2 : tie.Need-returns-2
+unfolding wholeRules
+returns-2 c = past-all _ (imageRules _ _) (image-kept (c .before .before)) (broken-here _ _ (sym (c .before .is-whole .ensures) ∙ not-true _ (c .if1 .taken)))
+
 returns-3 : tie.Need-returns-3
 unfolding wholeRules
-returns-3 c = stored (c .before .before) _ (broken-here _ _ (sym (c .before .is-whole .ensures) ∙ not-true _ (c .if3 .taken)))
-
-returns-4 : tie.Need-returns-4
-unfolding wholeRules
-returns-4 c = stored (c .before .before) _ (past _ _ (sym (c .before .is-whole .ensures) ∙ not-false _ (c .if3 .left)) none-broken)
+returns-3 c = past-all _ (imageRules _ _) (image-kept (c .before .before)) (past _ _ (sym (c .before .is-whole .ensures) ∙ not-false _ (c .if1 .left)) none-broken)
 
 pub of-whole-spec : {M : Type 1} → statement M
 of-whole-spec =
     tie.close
-    (tie.spec is-shelf-requires returns image-size-requires returns-2 is-whole-requires returns-3 returns-4)
+    (tie.spec of-image-requires enum-told enum-told-2 returns is-whole-requires returns-2 returns-3)

@@ -10,7 +10,7 @@ use Rattle.parity.proofs.showing.shown.Statement.{statement}
 use Rattle.parity.proofs.showing.shown.Tie as tie
 
 spot-requires : tie.Need-spot-requires
-spot-requires c κs = let s = c .before .before in (s .pre .0 .shelf, s .pre .1)
+spot-requires c κs = let s = c .before .before in (s .pre .stored .shelf, s .pre .address)
 
 is-present-requires : tie.Need-is-present-requires
 is-present-requires c κs = search needs
@@ -18,26 +18,23 @@ is-present-requires c κs = search needs
 part-requires : tie.Need-part-requires
 part-requires c κs =
     let s = c .before .before .before .before in
-    let ok = s .before .pre .0 .shelf in
-    (s .before .pre .0, (rw (c .before .before .spot .ensures) (spot-disk-lt _ ok _ (s .before .pre .1)), rw (c .before .before .spot .ensures) (spot-offset-lt _ ok _ (s .before .pre .1))))
+    (s .before .pre .stored, (rw (c .before .before .spot .ensures) (spot-disk-lt _ (s .before .pre .stored .shelf) _ (s .before .pre .address)), rw (c .before .before .spot .ensures) (spot-offset-lt _ (s .before .pre .stored .shelf) _ (s .before .pre .address))))
 
 returns : tie.Need-returns
 unfolding cell
 returns c =
     let s = c .before .before .before .before .before .before in
-    let ok = s .pre .0 .shelf in
     let spot = c .before .before .before .spot .ensures in
-    let there = sym (spot-present _ ok _ (s .pre .1)) ∙ ap (λ (x : Spot). presentOn (s .args .shelf .loss) (x .disk)) (sym spot) ∙ sym (c .before .before .is-present .ensures) ∙ c .before .if1 .taken in
+    let there = sym (spot-present _ (s .pre .stored .shelf) _ (s .pre .address)) ∙ ap (λ (x : Spot). presentOn (s .args .shelf .loss) (x .disk)) (sym spot) ∙ sym (c .before .before .is-present .ensures) ∙ c .before .if1 .taken in
     rw there
     (c .part .ensures
     ∙ ap (unitAt (unitSize (s .args .shelf)) (s .args .image .now))
-    (ap (λ (x : Spot). x .disk * depth (s .args .shelf) + x .offset) spot ∙ spot-unit _ ok _ (s .pre .1)))
+    (ap (λ (x : Spot). x .disk * depth (s .args .shelf) + x .offset) spot ∙ spot-unit _ (s .pre .stored .shelf) _ (s .pre .address)))
 
 returns-2 : tie.Need-returns-2
 returns-2 c =
     let s = c .before .before .before .before .before in
-    let ok = s .pre .0 .shelf in
-    rw (sym (spot-present _ ok _ (s .pre .1)) ∙ ap (λ (x : Spot). presentOn (s .args .shelf .loss) (x .disk)) (sym (c .before .before .spot .ensures)) ∙ sym (c .before .is-present .ensures) ∙ c .if1 .left)
+    rw (sym (spot-present _ (s .pre .stored .shelf) _ (s .pre .address)) ∙ ap (λ (x : Spot). presentOn (s .args .shelf .loss) (x .disk)) (sym (c .before .before .spot .ensures)) ∙ sym (c .before .is-present .ensures) ∙ c .if1 .left)
 
 pub shown-spec : {M : Type 1} → statement M
 shown-spec = tie.close (tie.spec spot-requires is-present-requires part-requires returns returns-2)

@@ -5,6 +5,9 @@ use Rattle.parity.proofs.Sized.{units-most, image-size-most}
 use Rattle.parity.proofs.sizes.image_size.Statement.{statement}
 use Rattle.parity.proofs.sizes.image_size.Tie as tie
 
+returns : tie.Need-returns
+returns c = rw (c .before .before .offsets .ensures, c .unit-size .ensures)
+
 offsets-requires : tie.Need-offsets-requires
 offsets-requires c κs = search needs
 
@@ -16,9 +19,6 @@ unit-size-requires c κs = search needs
 
 mul-result-2 : tie.Need-mul-result-2
 mul-result-2 c = rw (c .before .before .offsets .ensures, c .unit-size .ensures) (omega (arith, image-size-most _ (c .before .before .before .pre)))
-
-returns : tie.Need-returns
-returns c = rw (c .before .before .offsets .ensures, c .unit-size .ensures)
 
 pub image-size-spec : {M : Type 1} → statement M
 image-size-spec =

@@ -1,16 +1,14 @@
 -- `parity::storing::fetch` meets its contract: the number of the unit, whether it is present, and then a load or the exclusive-or of the others. Assumes nothing.
 use mathlib.Core.Path.{_≡_, sym, ap, _∙_}
-use Prim.Native.Nat.{_≤_}
 use native.Mathlib.Omega.{arith}
 use borrow.Author.Needs.{needs}
-use Rattle.design.proofs.Tests.{shelf-parts}
 use Rattle.placement.specs.Layout.{layoutIn, stripeOf, jOf}
 use Rattle.parity.specs.declared.storing.Numbers.{Numbers}
 use Rattle.parity.specs.Stripe.{unitIn, present}
-use Rattle.parity.specs.Shapes.{numbersIn}
+use Rattle.parity.specs.inner.Shapes.{numbersIn}
 use Rattle.parity.proofs.Home.{depth-pos}
-use Rattle.parity.proofs.Accepted.{UnitCall}
-use Rattle.parity.proofs.Addressed.{unit-call, data-lt, number-fits, number-present, read-here, read-lost}
+use Rattle.parity.proofs.Accepted.{call-data-lt}
+use Rattle.parity.proofs.Addressed.{data-lt, number-fits, number-present, read-here, read-lost}
 use Rattle.parity.proofs.storing.fetch.Statement.{statement}
 use Rattle.parity.proofs.storing.fetch.Tie as tie
 
@@ -18,12 +16,6 @@ use Rattle.parity.proofs.storing.fetch.Tie as tie
 
 abbrev start : tie.After-numbers-of → tie.Start
 start c = c .before .before .before
-
-called : (c : tie.Start) → UnitCall (c .args .shelf) (c .args .image .now) (c .args .address) (c .args .buffer .now)
-called c = unit-call (c .pre .0) (c .pre .1)
-
-two : (c : tie.Start) → 2 ≤ c .args .shelf .k
-two c = shelf-parts (c .args .shelf) (c .pre .0 .shelf) .limits .k-least
 
 unit-is : (c : tie.After-numbers-of) →
     let h = start c .args .shelf in
@@ -36,19 +28,19 @@ told : (c : tie.After-is-present) →
     c .is-present .result ≡ present (s .args .shelf) (unitIn (s .args .shelf) (stripeOf (layoutIn (s .args .shelf)) (s .args .address)) (jOf (layoutIn (s .args .shelf)) (s .args .address)))
 told c =
     let n = c .before .before .before in
-    let w = called (start n) in
+    let w = start n .pre in
     number-present w _ (data-lt w) (unit-is n) (c .before .before .offsets .ensures) (c .is-present .ensures)
 
 -- ---- the needs
 
 numbers-of-requires : tie.Need-numbers-of-requires
-numbers-of-requires c κs = let s = c .before .before in (s .pre .0 .shelf, s .pre .1 .0)
+numbers-of-requires c κs = let s = c .before .before in (s .pre .stored .shelf, s .pre .address)
 
 offsets-requires : tie.Need-offsets-requires
-offsets-requires c κs = start c .pre .0 .shelf
+offsets-requires c κs = start c .pre .stored .shelf
 
 div-is-present : tie.Need-div-is-present
-div-is-present c = rw (c .before .offsets .ensures) (depth-pos _ (start (c .before .before) .pre .0 .shelf))
+div-is-present c = rw (c .before .offsets .ensures) (depth-pos _ (start (c .before .before) .pre .stored .shelf))
 
 is-present-requires : tie.Need-is-present-requires
 is-present-requires c κs = search needs
@@ -56,7 +48,7 @@ is-present-requires c κs = search needs
 load-requires : tie.Need-load-requires
 load-requires c κs =
     let n = c .before .before .before .before .before in
-    let w = called (start n) in
+    let w = start n .pre in
     number-fits w _ (data-lt w) (unit-is n)
 
 same-length : tie.Need-same-length
@@ -66,13 +58,13 @@ returns : tie.Need-returns
 returns c =
     let there = c .before .before .before .before .before in
     let n = there .before .before .before in
-    read-here (called (start n)) (unit-is n) (sym (told there) ∙ c .before .before .before .before .if1 .taken) (c .before .before .load .ensures)
+    read-here (start n .pre) (unit-is n) (sym (told there) ∙ c .before .before .before .before .if1 .taken) (c .before .before .load .ensures)
 
 fetch-lost-requires : tie.Need-fetch-lost-requires
-fetch-lost-requires c κs = let s = start (c .before .before .before .before .before) in (s .pre .0, s .pre .1)
+fetch-lost-requires c κs = let s = start (c .before .before .before .before .before) in s .pre
 
 sub-result : tie.Need-sub-result
-sub-result c = omega (arith, two (start (c .before .before .before .before .before .before .before .before .before)))
+sub-result c = omega (arith, call-data-lt (start (c .before .before .before .before .before .before .before .before .before) .pre))
 
 same-length-2 : tie.Need-same-length-2
 same-length-2 c = search needs
@@ -80,7 +72,7 @@ same-length-2 c = search needs
 returns-2 : tie.Need-returns-2
 returns-2 c =
     let there = c .before .before .before .before .before .before in
-    read-lost (called (start (there .before .before .before))) (sym (told there) ∙ c .before .before .before .before .before .if1 .left) (c .before .before .before .fetch-lost .ensures)
+    read-lost (start (there .before .before .before) .pre) (sym (told there) ∙ c .before .before .before .before .before .if1 .left) (c .before .before .before .fetch-lost .ensures)
 
 pub fetch-spec : {M : Type 1} → statement M
 fetch-spec =

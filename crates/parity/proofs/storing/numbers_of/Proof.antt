@@ -4,7 +4,7 @@ use Prim.Native.Nat.{ℕ, _+_, _*_}
 use native.Mathlib.Omega.{arith}
 use Rattle.placement.specs.declared.Spot.{Spot}
 use Rattle.parity.specs.declared.storing.Numbers.{Numbers}
-use Rattle.parity.specs.Shapes.{numbersIn}
+use Rattle.parity.specs.inner.Shapes.{numbersIn}
 use Rattle.parity.proofs.Spots.{spot-unit, spot-small, spot-parity, parity-small}
 use Rattle.parity.proofs.storing.numbers_of.Statement.{statement}
 use Rattle.parity.proofs.storing.numbers_of.Tie as tie

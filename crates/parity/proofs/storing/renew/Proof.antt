@@ -3,7 +3,7 @@ use mathlib.Core.Path.{ap, _∙_}
 use mathlib.Core.List.{List}
 use Prim.Native.Nat.{ℕ}
 use lib.ListN.{length}
-use Rattle.parity.specs.Stores.{putUnit}
+use Rattle.parity.specs.inner.Stores.{putUnit}
 use borrow.Author.Needs.{needs}
 use Rattle.parity.proofs.storing.renew.Statement.{statement}
 use Rattle.parity.proofs.storing.renew.Tie as tie

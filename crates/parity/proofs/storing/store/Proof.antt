@@ -1,18 +1,17 @@
 -- `parity::storing::store` meets its contract: the numbers of the data and of the parity, which of them are present, and then one of
 -- three ways to write. Assumes nothing.
 use mathlib.Core.Path.{_≡_, sym, ap, _∙_}
-use Prim.Native.Nat.{_-_, _≤_}
+use Prim.Native.Nat.{_-_}
 use native.Mathlib.Omega.{arith}
 use borrow.Author.Tests.{not-true, not-false}
 use borrow.Author.Needs.{needs}
-use Rattle.design.proofs.Tests.{shelf-parts}
 use Rattle.placement.specs.Layout.{layoutIn, stripeOf, jOf}
 use Rattle.parity.specs.declared.storing.Numbers.{Numbers}
 use Rattle.parity.specs.Stripe.{unitIn, present}
-use Rattle.parity.specs.Shapes.{numbersIn}
+use Rattle.parity.specs.inner.Shapes.{numbersIn}
 use Rattle.parity.proofs.Home.{depth-pos}
-use Rattle.parity.proofs.Accepted.{UnitCall}
-use Rattle.parity.proofs.Addressed.{unit-call, data-lt, parity-lt, number-fits, number-present, numbers-apart, write-parity-lost, write-data-lost, write-here}
+use Rattle.parity.proofs.Accepted.{call-data-lt}
+use Rattle.parity.proofs.Addressed.{data-lt, parity-lt, number-fits, number-present, write-parity-lost, write-data-lost, write-here}
 use Rattle.parity.proofs.storing.store.Statement.{statement}
 use Rattle.parity.proofs.storing.store.Tie as tie
 
@@ -20,12 +19,6 @@ use Rattle.parity.proofs.storing.store.Tie as tie
 
 abbrev start : tie.After-numbers-of → tie.Start
 start c = c .before .before .before
-
-called : (c : tie.Start) → UnitCall (c .args .shelf) (c .args .image .now) (c .args .address) (c .args .unit .now)
-called c = unit-call (c .pre .0) (c .pre .1)
-
-two : (c : tie.Start) → 2 ≤ c .args .shelf .k
-two c = shelf-parts (c .args .shelf) (c .pre .0 .shelf) .limits .k-least
 
 unit-is : (c : tie.After-numbers-of) →
     let h = start c .args .shelf in
@@ -46,7 +39,7 @@ parity-told : (c : tie.After-is-present) →
     c .is-present .result ≡ present (s .args .shelf) (unitIn (s .args .shelf) (stripeOf (layoutIn (s .args .shelf)) (s .args .address)) (s .args .shelf .k - 1))
 parity-told c =
     let n = c .before .before .before in
-    let w = called (start n) in
+    let w = start n .pre in
     number-present w _ (parity-lt w) (parity-is n) (c .before .before .offsets .ensures) (c .is-present .ensures)
 
 data-told : (c : tie.After-is-present2) →
@@ -54,19 +47,19 @@ data-told : (c : tie.After-is-present2) →
     c .is-present2 .result ≡ present (s .args .shelf) (unitIn (s .args .shelf) (stripeOf (layoutIn (s .args .shelf)) (s .args .address)) (jOf (layoutIn (s .args .shelf)) (s .args .address)))
 data-told c =
     let n = c .before .before .before .before .before .before in
-    let w = called (start n) in
+    let w = start n .pre in
     number-present w _ (data-lt w) (unit-is n) (c .before .before .before .before .before .offsets .ensures) (c .is-present2 .ensures)
 
 -- ---- the needs
 
 numbers-of-requires : tie.Need-numbers-of-requires
-numbers-of-requires c κs = let s = c .before .before in (s .pre .0 .shelf, s .pre .1 .0)
+numbers-of-requires c κs = let s = c .before .before in (s .pre .stored .shelf, s .pre .address)
 
 offsets-requires : tie.Need-offsets-requires
-offsets-requires c κs = start c .pre .0 .shelf
+offsets-requires c κs = start c .pre .stored .shelf
 
 div-is-present : tie.Need-div-is-present
-div-is-present c = rw (c .before .offsets .ensures) (depth-pos _ (start (c .before .before) .pre .0 .shelf))
+div-is-present c = rw (c .before .offsets .ensures) (depth-pos _ (start (c .before .before) .pre .stored .shelf))
 
 is-present-requires : tie.Need-is-present-requires
 is-present-requires c κs = search needs
@@ -74,7 +67,7 @@ is-present-requires c κs = search needs
 store-requires : tie.Need-store-requires
 store-requires c κs =
     let n = c .before .before .before .before .before in
-    let w = called (start n) in
+    let w = start n .pre in
     number-fits w _ (data-lt w) (unit-is n)
 
 same-length : tie.Need-same-length
@@ -84,21 +77,21 @@ returns : tie.Need-returns
 returns c =
     let there = c .before .before .before .before .before in
     let n = there .before .before .before in
-    write-parity-lost (called (start n)) (unit-is n) (sym (parity-told there) ∙ not-true _ (c .before .before .before .before .if1 .taken)) (c .before .before .store .ensures)
+    write-parity-lost (start n .pre) (unit-is n) (sym (parity-told there) ∙ not-true _ (c .before .before .before .before .if1 .taken)) (c .before .before .store .ensures)
 
 div-is-present-2 : tie.Need-div-is-present-2
 div-is-present-2 c =
     let at = c .before .before .before .before in
-    rw (at .offsets .ensures) (depth-pos _ (start (at .before) .pre .0 .shelf))
+    rw (at .offsets .ensures) (depth-pos _ (start (at .before) .pre .stored .shelf))
 
 is-present-requires-2 : tie.Need-is-present-requires-2
 is-present-requires-2 c κs = search needs
 
 store-lost-requires : tie.Need-store-lost-requires
-store-lost-requires c κs = let s = start (c .before .before .before .before .before .before .before .before) in (s .pre .0, s .pre .1)
+store-lost-requires c κs = let s = start (c .before .before .before .before .before .before .before .before) in s .pre
 
 sub-t19 : tie.Need-sub-t19
-sub-t19 c = omega (arith, two (start (c .before .before .before .before .before .before .before .before .before .before .before .before)))
+sub-t19 c = omega (arith, call-data-lt (start (c .before .before .before .before .before .before .before .before .before .before .before .before) .pre))
 
 same-length-2 : tie.Need-same-length-2
 same-length-2 c = search needs
@@ -106,15 +99,15 @@ same-length-2 c = search needs
 returns-2 : tie.Need-returns-2
 returns-2 c =
     let there = c .before .before .before .before .before .before in
-    write-data-lost (called (start (there .before .before .before .before .before .before)))
+    write-data-lost (start (there .before .before .before .before .before .before) .pre)
     (sym (data-told there) ∙ not-true _ (c .before .before .before .before .before .if2 .taken))
     (c .before .before .before .store-lost .ensures)
 
 renew-requires : tie.Need-renew-requires
 renew-requires c κs =
     let n = c .before .before .before .before .before .before .before .before in
-    let w = called (start n) in
-    (number-fits w _ (data-lt w) (unit-is n), number-fits w _ (parity-lt w) (parity-is n), numbers-apart w (unit-is n) (parity-is n))
+    let w = start n .pre in
+    (number-fits w _ (data-lt w) (unit-is n), number-fits w _ (parity-lt w) (parity-is n))
 
 same-length-3 : tie.Need-same-length-3
 same-length-3 c = search needs
@@ -124,7 +117,7 @@ returns-3 c =
     let there = c .before .before .before .before .before in
     let at-parity = there .before .before .before in
     let n = at-parity .before .before .before in
-    write-here (called (start n)) (unit-is n) (parity-is n)
+    write-here (start n .pre) (unit-is n) (parity-is n)
     (sym (data-told there) ∙ not-false _ (c .before .before .before .before .if2 .left))
     (sym (parity-told at-parity) ∙ not-false _ (there .before .before .if1 .left))
     (c .before .before .renew .ensures)

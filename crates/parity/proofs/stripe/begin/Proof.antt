@@ -7,8 +7,8 @@ use native.Mathlib.Omega.{arith}
 use lib.ListN.{length}
 use borrow.Author.Needs.{needs}
 use Rattle.parity.specs.Units.{zeros, unitAt, xorU, xorSum}
-use Rattle.parity.specs.Stores.{putUnit}
-use Rattle.parity.specs.Sums.{numberBy, sumWith}
+use Rattle.parity.specs.inner.Stores.{putUnit}
+use Rattle.parity.specs.inner.Sums.{numberBy, sumWith}
 use Rattle.parity.proofs.Put.{unit-size}
 use Rattle.parity.proofs.FirstTwo.{two-beside, first-two}
 use Rattle.parity.proofs.StripeSums.{place-fits}
@@ -50,13 +50,13 @@ beside c =
 number-requires : tie.Need-number-requires
 number-requires c κs =
     let P = start (c .before .before) .pre .0 in
-    ((P .two, P .some, P .entries, beside c .0), (P .deep, P .rows, P .often))
+    record { two = P .two; some = P .some; entries = P .entries; often = P .often; deep = P .deep; row = P .row; index = beside c .0 }
 
 number-requires-2 : tie.Need-number-requires-2
 number-requires-2 c κs =
     let at = c .before in
     let P = start (at .before .before) .pre .0 in
-    ((P .two, P .some, P .entries, beside at .1), (P .deep, P .rows, P .often))
+    record { two = P .two; some = P .some; entries = P .entries; often = P .often; deep = P .deep; row = P .row; index = beside at .1 }
 
 join-requires : tie.Need-join-requires
 join-requires c κs =

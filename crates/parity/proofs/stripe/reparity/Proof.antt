@@ -46,7 +46,7 @@ number-requires-2 c κs = search needs
 mix-within-requires : tie.Need-mix-within-requires Inv-loop μ-loop
 mix-within-requires c κs =
     let turn = c .before .before .before in
-    stripe-mixes (turn .before .loop .inv .1) (omega arith) (c .before .number2 .ensures) (omega arith)
+    stripe-mixes (turn .before .loop .inv .1) (omega arith) (c .before .number2 .ensures)
 
 add-i : tie.Need-add-i Inv-loop μ-loop
 add-i c = omega arith

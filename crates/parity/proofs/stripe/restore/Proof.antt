@@ -38,7 +38,7 @@ number-requires-2 c κs = search needs
 mix-within-requires : tie.Need-mix-within-requires Inv-loop μ-loop
 mix-within-requires c κs =
     let turn = c .before .before .before in
-    stripe-mixes (turn .before .loop .inv .1) (turn .loop-test .taken) (c .before .number2 .ensures) (c .before .before .if1 .taken)
+    stripe-mixes (turn .before .loop .inv .1) (turn .loop-test .taken) (c .before .number2 .ensures)
 
 add-j : tie.Need-add-j Inv-loop μ-loop
 add-j c = omega arith

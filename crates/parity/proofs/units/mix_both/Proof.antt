@@ -7,7 +7,7 @@ use native.Mathlib.Omega.{arith}
 use lib.Bits.{bitXor}
 use lib.ListN.{length, getD}
 use Rattle.parity.specs.Units.{unitAt, xorU}
-use Rattle.parity.specs.Stores.{putUnit}
+use Rattle.parity.specs.inner.Stores.{putUnit}
 use Rattle.parity.proofs.Xor.{xorU-length}
 use Rattle.parity.proofs.Put.{unit-size}
 use Rattle.parity.proofs.Writing.{Begun, begun-none, begun-next, begun-all, byte-xor, byte-unread}

@@ -1,9 +1,6 @@
 -- `parity::units::mix_in` meets its contract. Assumes nothing.
-use mathlib.Core.Path.{_≡_, refl, ap, _∙_}
-use mathlib.Core.List.{List}
-use Prim.Native.Nat.{ℕ}
+use mathlib.Core.Path.{refl}
 use lib.ListN.{length}
-use Rattle.parity.specs.Units.{unitAt, xorU}
 use Rattle.parity.proofs.Put.{part-unit, part-put, unit-size}
 use Rattle.parity.proofs.Xor.{xorU-length}
 use borrow.Author.Needs.{needs}
@@ -34,15 +31,9 @@ same-length c = search needs
 returns : tie.Need-returns
 returns c =
     let start = c .before .before .before .before .before .before in
-    let called = c .before .before .mix in
-    let unit : List ℕ = start .args .unit .now in
-    let image : List ℕ = start .args .image .now in
-    let n : ℕ = start .args .n in
-    let mixed : called .last .0 ≡ xorU (unitAt (length unit) image n) unit =
-    called .ensures ∙ ap (λ (l : List ℕ). xorU l unit) (part-unit (length unit) image n) in
-    rw mixed
-    (part-put (length unit) image n (xorU (unitAt (length unit) image n) unit)
-    (xorU-length (length unit) (unitAt (length unit) image n) unit (unit-size (length unit) image n (start .pre)) refl))
+    let a = start .args in
+    rw (c .before .before .mix .ensures, part-unit (length (a .unit .now)) (a .image .now) (a .n))
+    (part-put _ (a .image .now) (a .n) _ (xorU-length _ _ (a .unit .now) (unit-size _ (a .image .now) (a .n) (start .pre)) refl))
 
 pub mix-in-spec : {M : Type 1} → statement M
 mix-in-spec =

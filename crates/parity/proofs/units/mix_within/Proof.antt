@@ -1,106 +1,16 @@
--- `parity::units::mix_within` meets its contract. The loop's invariant: the bytes of unit `to` before i are mixed, and all others as they
--- were. Assumes nothing.
-use mathlib.Core.Path.{_≡_, refl, sym, ap₂, _∙_}
-use mathlib.Core.List.{List}
-use Prim.Native.Nat.{ℕ, _+_, _-_, _*_, _<_}
-use native.Mathlib.Omega.{arith}
-use lib.Bits.{bitXor}
-use lib.ListN.{getD}
-use Rattle.parity.specs.Units.{unitAt, xorU}
-use Rattle.parity.specs.Stores.{putUnit}
-use Rattle.parity.proofs.Xor.{xorU-length}
-use Rattle.parity.proofs.Put.{unit-size}
-use Rattle.parity.proofs.Writing.{Begun, begun-none, begun-next, begun-all, byte-xor, byte-unread}
+-- `parity::units::mix_within` meets its contract. Assumes nothing.
+use borrow.Author.Needs.{needs}
 use Rattle.parity.proofs.units.mix_within.Statement.{statement}
 use Rattle.parity.proofs.units.mix_within.Tie as tie
 
--- unit `to` with unit `from` mixed into it
-abbrev Mixed : ℕ → List ℕ → ℕ → ℕ → List ℕ
-Mixed size image to from = xorU (unitAt size image to) (unitAt size image from)
+join-requires : tie.Need-join-requires
+join-requires c κs = let s = c .before .before in (s .pre .0, s .pre .0, s .pre .1)
 
--- what a turn reads, one byte of either unit, is as it was
-byte-mixed : (size : ℕ) (was : List ℕ) (to from : ℕ) (now : List ℕ) (i : ℕ) → i < size
-    → Begun was (to * size) (Mixed size was to from) size now i
-    → bitXor (getD now (to * size + i) 0) (getD now (from * size + i) 0) ≡ getD (Mixed size was to from) i 0
-byte-mixed size was to from now i l b =
-    let unread = byte-unread size was to (Mixed size was to from) now i b l in
-    ap₂ bitXor (unread to) (unread from) ∙ sym (byte-xor (unitAt size was to) (unitAt size was from) i)
+same-length : tie.Need-same-length
+same-length c = search needs
 
-abbrev Inv-loop : tie.InvT-loop
-Inv-loop image₀ to from size a b i₀ image i = Begun image₀ (to * size) (Mixed size image₀ to from) size image i
-
-abbrev μ-loop : tie.MeasureT-loop
-μ-loop image₀ to from size a b i₀ image i = size - i
-
-mul-a : tie.Need-mul-a Inv-loop μ-loop
-mul-a c = omega arith
-
-mul-b : tie.Need-mul-b Inv-loop μ-loop
-mul-b c = omega arith
-
-loop-holds : tie.Need-loop-holds Inv-loop μ-loop
-loop-holds c =
-    let a = c .args in
-    begun-none _ _ _ _
-    (xorU-length (a .size) _ _ (unit-size (a .size) (a .image .now) (a .to) (c .pre .0)) (unit-size (a .size) (a .image .now) (a .from) (c .pre .1)))
-    (c .pre .0)
-
-add-image : tie.Need-add-image Inv-loop μ-loop
-add-image c = omega arith
-
-slice-read-image : tie.Need-slice-read-image Inv-loop μ-loop
-slice-read-image c = omega arith
-
-add-image-2 : tie.Need-add-image-2 Inv-loop μ-loop
-add-image-2 c = omega arith
-
-slice-read-image-2 : tie.Need-slice-read-image-2 Inv-loop μ-loop
-slice-read-image-2 c = omega arith
-
-add-image-3 : tie.Need-add-image-3 Inv-loop μ-loop
-add-image-3 c = omega arith
-
-slice-write-image : tie.Need-slice-write-image Inv-loop μ-loop
-slice-write-image c = omega arith
-
-add-i : tie.Need-add-i Inv-loop μ-loop
-add-i c = omega arith
-
-loop-less : tie.Need-loop-less Inv-loop μ-loop
-loop-less c = omega arith
-
-loop-again : tie.Need-loop-again Inv-loop μ-loop
-loop-again c =
-    let at = c .before .before .before in
-    let a = at .before .args in
-    let more = c .before .before .loop-test .taken in
-    begun-next _ _ _ _ _ _ (at .loop .inv) _ _ more refl
-    (byte-mixed (a .size) (a .image .now) (a .to) (a .from) (at .loop .image) (at .loop .i) more (at .loop .inv))
-
-same-length : tie.Need-same-length Inv-loop μ-loop
-same-length c = c .before .loop .inv .same
-
-returns : tie.Need-returns Inv-loop μ-loop
-unfolding putUnit
-returns c = begun-all _ _ _ _ _ _ (c .before .loop .inv) (c .loop-test .left)
+returns : tie.Need-returns
+returns c = c .before .before .join .ensures
 
 pub mix-within-spec : {M : Type 1} → statement M
-mix-within-spec =
-    tie.close
-    (tie.spec
-    Inv-loop
-    μ-loop
-    mul-a
-    mul-b
-    loop-holds
-    add-image
-    slice-read-image
-    add-image-2
-    slice-read-image-2
-    add-image-3
-    slice-write-image
-    add-i
-    loop-less
-    loop-again
-    same-length
-    returns)
+mix-within-spec = tie.close (tie.spec join-requires same-length returns)

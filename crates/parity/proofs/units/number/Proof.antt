@@ -1,13 +1,13 @@
 -- `parity::units::number` meets its contract. Assumes nothing.
 use mathlib.Core.Path.{_≡_, ap, ap₂, _∙_}
 use mathlib.Core.Logic.{⊎-elim}
-use Prim.Native.Nat.{ℕ, _+_, _*_, _/_, _%_, _≤_, _<_}
-use native.Mathlib.Nat.{mod-lt, mul-le-mul, div-le-self}
+use Prim.Native.Nat.{ℕ, _+_, _*_, _/_, _%_, _^_, _≤_, _<_}
+use native.Mathlib.Nat.{mod-lt, mul-le-mul, mul-le-mul-left, div-add-mod'}
 use native.Mathlib.Omega.{arith}
 use lib.Arith.{digits-lt}
 use lib.ListN.{getD}
 use borrow.Author.Tests.{lt-ltb, le-ltb}
-use Rattle.parity.specs.Stores.{entryOf, numberIn}
+use Rattle.parity.specs.inner.Stores.{entryOf, numberIn}
 use borrow.Author.Needs.{needs}
 use Rattle.parity.proofs.units.number.Statement.{statement}
 use Rattle.parity.proofs.units.number.Tie as tie
@@ -70,13 +70,13 @@ wide-requires c κs = search needs
 abbrev Bounds : tie.After-wide → Type 0
 Bounds c =
     let a = c .before .before .before .before .args in
-    (c .wide .result * a .depth ≤ 255 * 134215680) × (a .s / a .b * a .r ≤ 134215680 * 1024)
+    (c .wide .result * a .depth ≤ 255 * 2 ^ 27) × (a .s / a .b * a .r < 2 ^ 27)
 
 bounds : (c : tie.After-wide) → Bounds c
 bounds c =
     let a = c .before .before .before .before .args in (
-      mul-le-mul {n₂ = 255} {m₂ = 134215680} (omega arith) (omega arith),
-      mul-le-mul {n₂ = 134215680} {m₂ = 1024} (omega (arith, div-le-self (a .s) (a .b))) (omega arith),
+      mul-le-mul {n₂ = 255} {m₂ = 2 ^ 27} (omega arith) (omega arith),
+      omega (arith, mul-le-mul-left (a .s / a .b) (c .before .before .before .before .pre .often), div-add-mod' (a .s) (a .b)),
     )
 
 mul-result : tie.Need-mul-result

@@ -1,9 +1,9 @@
 -- What the code's steps do, said of the numbers that they take: a unit of the image replaced, and a unit's number by a table of
--- ranks. The promises do not cite this file.
+-- ranks.
 use mathlib.Core.Path.{_≡_}
 use mathlib.Core.Bool.{cond}
 use mathlib.Core.List.{List}
-use Prim.Native.Nat.{ℕ, _+_, _-_, _*_, _/_, _%_, _<_}
+use Prim.Native.Nat.{ℕ, _+_, _-_, _*_, _/_, _%_, _^_, _≤_, _<_}
 use lib.Dec.{ltb, eqb}
 use lib.ListN.{getD}
 use lib.Seq.{paste}
@@ -27,3 +27,13 @@ entryOf k b s i =
 unfoldable pub numberIn : List ℕ → List ℕ → ℕ → ℕ → ℕ → ℕ → ℕ → ℕ → ℕ
 numberIn table ranks k b r depth s i =
     getD table (entryOf k b s i) 0 * depth + (s / b * r + getD ranks (entryOf k b s i) 0)
+
+-- what it is reckoned from is of a shelf within the limits of document 01, so that it fits a machine word
+pub record Reckoned (k b r depth s i : ℕ) : Type 0 where
+  pub two : 2 ≤ k
+  pub some : 1 ≤ b
+  pub entries : b * k ≤ 2048
+  pub often : r ≤ b
+  pub deep : depth < 2 ^ 27
+  pub row : s < 2 ^ 27
+  pub index : i < k

@@ -1,10 +1,10 @@
--- The units of a stripe and their sums, said of the numbers that the code takes. The promises do not cite this file.
+-- The units of a stripe and their sums, said of the numbers that the code takes.
 use mathlib.Core.List.{List}
-use Prim.Native.Nat.{ℕ, _+_, _*_, _≤_, _<_}
+use Prim.Native.Nat.{ℕ, _+_, _*_, _^_, _≤_, _<_}
 use Rattle.design.specs.Tuples.{Different}
 use Rattle.parity.specs.declared.Shape.{Shape}
 use Rattle.parity.specs.Units.{unitAt, xorSum, put}
-use Rattle.parity.specs.Stores.{numberIn}
+use Rattle.parity.specs.inner.Stores.{numberIn}
 
 module _ (table ranks : List ℕ) (shape : Shape) where
   -- the number of unit i of stripe s
@@ -24,8 +24,8 @@ module _ (table ranks : List ℕ) (shape : Shape) where
     pub two : 2 ≤ shape .k
     pub some : 1 ≤ shape .b
     pub entries : shape .b * shape .k ≤ 2048
-    pub rows : s ≤ 134215680
-    pub often : shape .r ≤ 1024
-    pub deep : shape .depth ≤ 134215680
+    pub often : shape .r ≤ shape .b
+    pub deep : shape .depth < 2 ^ 27
+    pub row : s < 2 ^ 27
     pub within : (i : ℕ) → i < shape .k → numberBy s i * shape .size + shape .size ≤ n
     pub apart : Different (numberBy s) (shape .k)

@@ -1,5 +1,5 @@
 -- What the code's steps do, said of the numbers that they take: a text put into the buffer, and a stripe's line by a table of
--- ranks. The promises do not cite this file.
+-- ranks.
 use mathlib.Core.Path.{_≡_}
 use mathlib.Core.Bool.{cond}
 use mathlib.Core.List.{List, [], _∷_, _++_}

@@ -1,0 +1,2 @@
+-- What only contracts inside the crate cite: no promise rests on it.
+pub mod Steps

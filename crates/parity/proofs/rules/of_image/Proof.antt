@@ -1,0 +1,30 @@
+-- `parity::rules::of_image` meets its contract: rule after rule, in the order of their numbers. Assumes nothing.
+use mathlib.Core.Path.{_≡_, sym, _∙_}
+use mathlib.Core.Bool.{true}
+use borrow.Author.Needs.{needs}
+use borrow.Author.Tests.{not-true, not-false}
+use Rattle.design.specs.Shelf.{isShelf}
+use Rattle.parity.proofs.Verdicts.{none-broken, broken-here, past, is-same, not-same}
+use Rattle.parity.proofs.rules.of_image.Statement.{statement}
+use Rattle.parity.proofs.rules.of_image.Tie as tie
+
+is-shelf-requires : tie.Need-is-shelf-requires
+is-shelf-requires c κs = search needs
+
+returns : tie.Need-returns
+returns c = broken-here _ _ (sym (c .before .is-shelf .ensures) ∙ not-true _ (c .if1 .taken))
+
+shelf-kept : (c : tie.Else1) → isShelf (c .before .before .args .shelf) ≡ true
+shelf-kept c = sym (c .before .is-shelf .ensures) ∙ not-false _ (c .if1 .left)
+
+image-size-requires : tie.Need-image-size-requires
+image-size-requires c κs = shelf-kept c
+
+returns-2 : tie.Need-returns-2
+returns-2 c = past _ _ (shelf-kept (c .before .before)) (broken-here _ _ (not-same _ (c .before .image-size .ensures) (c .if2 .taken)))
+
+returns-3 : tie.Need-returns-3
+returns-3 c = past _ _ (shelf-kept (c .before .before)) (past _ _ (is-same _ (c .before .image-size .ensures) (c .if2 .left)) none-broken)
+
+pub of-image-spec : {M : Type 1} → statement M
+of-image-spec = tie.close (tie.spec is-shelf-requires returns image-size-requires returns-2 returns-3)
