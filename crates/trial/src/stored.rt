@@ -75,7 +75,7 @@ fn write_stripe_line(held: Held, line: &[u8]) -> Step {
 }
 
 // The same calls with n equal bytes, for units that no line has room for.
-fn fill_line(held: Held, line: &[u8]) -> Step {
+fn fill_line(held: Held, line: &[u8], stripe: bool) -> Step {
     let n = words::number(line, 2);
     let byte = words::number(line, 3);
     if n > IMAGE_MOST {
@@ -86,36 +86,14 @@ fn fill_line(held: Held, line: &[u8]) -> Step {
     }
     let mut image = held.image;
     let bytes = [byte as u8; IMAGE_MOST];
-    print::text(b"fill");
-    write(
-        held.shelf,
-        &mut image,
-        held.size,
-        words::number(line, 1),
-        first(&bytes, n),
-    );
-    after(held, image)
-}
-
-fn fill_stripe_line(held: Held, line: &[u8]) -> Step {
-    let n = words::number(line, 2);
-    let byte = words::number(line, 3);
-    if n > IMAGE_MOST {
-        return Step::other(held);
+    let at = words::number(line, 1);
+    if stripe {
+        print::text(b"fillstripe");
+        write_stripe(held.shelf, &mut image, held.size, at, first(&bytes, n));
+    } else {
+        print::text(b"fill");
+        write(held.shelf, &mut image, held.size, at, first(&bytes, n));
     }
-    if byte > 255 {
-        return Step::other(held);
-    }
-    let mut image = held.image;
-    let bytes = [byte as u8; IMAGE_MOST];
-    print::text(b"fillstripe");
-    write_stripe(
-        held.shelf,
-        &mut image,
-        held.size,
-        words::number(line, 1),
-        first(&bytes, n),
-    );
     after(held, image)
 }
 
@@ -166,10 +144,10 @@ pub fn run(held: Held, line: &[u8]) -> Step {
         return write_stripe_line(held, line);
     }
     if words::fits(line, b"fill # # #") {
-        return fill_line(held, line);
+        return fill_line(held, line, false);
     }
     if words::fits(line, b"fillstripe # # #") {
-        return fill_stripe_line(held, line);
+        return fill_line(held, line, true);
     }
     if words::fits(line, b"lose #") {
         return lose_line(held, line);
