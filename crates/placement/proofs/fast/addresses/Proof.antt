@@ -1,10 +1,13 @@
 -- `placement::fast::addresses` meets its contract: the addresses are below 2 ^ 31. Assumes nothing.
+use mathlib.Core.Path.{refl}
 use native.Mathlib.Omega.{arith}
-use borrow.Author.Needs.{needs}
 use Rattle.placement.proofs.Even.{even-shelf}
 use Rattle.placement.proofs.Bounds.{bounds}
 use Rattle.placement.proofs.fast.addresses.Statement.{statement}
 use Rattle.placement.proofs.fast.addresses.Tie as tie
+
+returns : tie.Need-returns
+returns c = refl
 
 mul-result : tie.Need-mul-result
 mul-result c = omega (arith, bounds _ (c .before .pre))
@@ -17,9 +20,6 @@ sub-result c = omega (arith, even-shelf _ (c .before .before .before .pre) .k-le
 
 mul-result-3 : tie.Need-mul-result-3
 mul-result-3 c = omega (arith, bounds _ (c .before .before .before .pre))
-
-returns : tie.Need-returns
-returns c = search needs
 
 pub addresses-spec : {M : Type 1} → statement M
 addresses-spec = tie.close (tie.spec mul-result mul-result-2 sub-result mul-result-3 returns)

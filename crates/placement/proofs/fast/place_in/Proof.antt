@@ -41,6 +41,10 @@ offset c =
 
 -- ---- the needs
 
+returns : tie.Need-returns
+unfolding placeIn
+returns c = rw (counted (c .before .before))
+
 mul-disk : tie.Need-mul-disk
 mul-disk c = omega (arith, entry (c .before .before))
 
@@ -76,10 +80,6 @@ add-offset-2 c = omega (arith, offset (c .before .before))
 
 cast-t11 : tie.Need-cast-t11
 cast-t11 c = search needs
-
-returns : tie.Need-returns
-unfolding placeIn
-returns c = rw (counted (c .before .before))
 
 pub place-in-spec : {M : Type 1} → statement M
 place-in-spec =
