@@ -39,7 +39,7 @@ loss-most (Disk d) v below l = omega (arith, ltb-true d v below)
 loss-back : (loss : Loss) → lossOf (lossNumber loss) ≡ loss
 unfolding lossOf lossNumber
 loss-back Nothing = refl
-loss-back (Disk d) = rw add-one
+loss-back (Disk d) = ap lossOf (add-one d)
 
 module _ (h : Shelf) (ok : isShelf h ≡ true) where
   numbers-fit : Fit (numbersIn h)

@@ -1,10 +1,16 @@
 -- `host::shqemtuli_lose` meets its contract: what is given and left is as the verdict says. Assumes nothing.
+use mathlib.Core.Path.{_≡_}
 use borrow.Author.Needs.{needs}
+use Rattle.parity.specs.Calls.{lost}
 use Rattle.host.proofs.Holding.{value-length}
 use Rattle.host.proofs.Answering.{given-refused, given-accepted}
 use Rattle.host.proofs.Changing.{losing-shelf}
 use Rattle.host.proofs.losing.shqemtuli_lose.Statement.{statement}
 use Rattle.host.proofs.losing.shqemtuli_lose.Tie as tie
+
+-- the call below is told of the disk that is named
+lost-is : (c : tie.After-lose) → c .lose .result ≡ lost (c .before .shelf .result) (c .before .before .before .before .args .disk)
+lost-is c = c .lose .ensures
 
 shelf-requires : tie.Need-shelf-requires
 shelf-requires c κs = search needs
@@ -28,7 +34,7 @@ returns : tie.Need-returns
 returns c =
     let at-enum-told2 = c .before in
     let at-lose = at-enum-told2 .before .before in
-    rw (← at-lose .before .shelf .ensures, ← at-lose .lose .ensures) (given-refused _ _ (c .of-verdict .ensures) (at-enum-told2 .enum-told2 .given .1))
+    rw (← at-lose .before .shelf .ensures, ← lost-is at-lose) (given-refused _ _ (c .of-verdict .ensures) (at-enum-told2 .enum-told2 .given .1))
 
 put-requires : tie.Need-put-requires
 put-requires c κs =
@@ -46,7 +52,7 @@ returns-2 c =
     let at-put = c .before .before in
     let at-enum-told = at-put .before .before .before in
     let at-lose = at-enum-told .before .before in
-    rw (← at-lose .before .shelf .ensures, ← at-lose .lose .ensures) (given-accepted _ (at-enum-told .enum-told .given .1) (at-put .put .ensures))
+    rw (← at-lose .before .shelf .ensures, ← lost-is at-lose) (given-accepted _ (at-enum-told .enum-told .given .1) (at-put .put .ensures))
 
 pub shqemtuli-lose-spec : {M : Type 1} → statement M
 shqemtuli-lose-spec =

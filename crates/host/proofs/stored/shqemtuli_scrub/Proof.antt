@@ -1,6 +1,7 @@
 -- `host::shqemtuli_scrub` meets its contract: the count is put, and the number given. Assumes nothing.
 use borrow.Author.Needs.{needs}
 use mathlib.Core.Path.{refl}
+use native.Mathlib.Omega.{arith}
 use Rattle.host.proofs.Numbering.{numbered-none, numbered-put}
 use Rattle.host.proofs.Answering.{into-other, into-fits}
 use Rattle.host.proofs.stored.shqemtuli_scrub.Statement.{statement}
@@ -16,7 +17,7 @@ scrub-requires : tie.Need-scrub-requires
 scrub-requires c κs = search needs
 
 put-requires : tie.Need-put-requires
-put-requires c κs = search needs
+put-requires c κs = omega (arith, c .before .before .before .if1 .left)
 
 of-verdict-requires : tie.Need-of-verdict-requires
 of-verdict-requires c κs = search needs

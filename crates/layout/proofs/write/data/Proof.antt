@@ -42,7 +42,10 @@ abbrev start : tie.Joined1 Inv-loop μ-loop → tie.Start Inv-loop μ-loop
 start c = c .before .before .before .before
 
 position-is : (c : tie.Joined1 Inv-loop μ-loop) → c .if1 .position ≡ cond (ltb (c .before .before .loop .j) (start c .args .parity)) (c .before .before .loop .j) (c .before .before .loop .j + 1)
-position-is c = ⊎-elim (λ w. rw (lt-ltb _ _ (w .0 .taken)) (w .1)) (λ w. rw (le-ltb _ _ (w .0 .left)) (w .1)) (c .if1 .came)
+position-is c =
+    let j : ℕ = c .before .before .loop .j in
+    let parity : ℕ = start c .args .parity in
+    ⊎-elim (λ w. rw (lt-ltb j parity (w .0 .taken)) (w .1)) (λ w. rw (le-ltb j parity (w .0 .left)) (w .1)) (c .if1 .came)
 
 -- the next words are those so far and this one
 next-is : (c : tie.Joined1 Inv-loop μ-loop) → words (start c) (c .before .before .loop .j + 1) ≡ words (start c) (c .before .before .loop .j) ++ word (start c) (c .if1 .position)
