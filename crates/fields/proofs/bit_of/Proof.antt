@@ -4,14 +4,8 @@ use native.Mathlib.Omega.{arith}
 use Rattle.fields.proofs.bit_of.Statement.{statement}
 use Rattle.fields.proofs.bit_of.Tie as tie
 
-sub-result : tie.Need-sub-result
-sub-result c = omega arith
-
-shr-result : tie.Need-shr-result
-shr-result c = omega arith
-
 returns : tie.Need-returns
 returns c = refl
 
 pub bit-of-spec : {M : Type 1} → statement M
-bit-of-spec = tie.close (tie.spec sub-result shr-result returns)
+bit-of-spec = tie.close (tie.spec (λ c. omega arith) (λ c. omega arith) returns)

@@ -29,15 +29,6 @@ returns-2 c =
     let width = c .before .before .args .width in
     rw (le-leb 1 width (c .before .if1 .left), lt-leb width 32 (c .if2 .taken))
 
-add-result : tie.Need-add-result
-add-result c = search needs
-
-add-result-2 : tie.Need-add-result-2
-add-result-2 c = search needs
-
-add-result-3 : tie.Need-add-result-3
-add-result-3 c = search needs
-
 returns-3 : tie.Need-returns-3
 unfolding isField
 returns-3 c =
@@ -45,4 +36,4 @@ returns-3 c =
     rw (le-leb 1 (args .width) (c .before .if1 .left), le-leb (args .width) 32 (c .if2 .left)) (inside (args .at) (args .width) (length (now (args .bytes))))
 
 pub is-field-spec : {M : Type 1} → statement M
-is-field-spec = tie.close (tie.spec returns returns-2 add-result add-result-2 add-result-3 returns-3)
+is-field-spec = tie.close (tie.spec returns returns-2 (λ c. search needs) (λ c. search needs) (λ c. search needs) returns-3)

@@ -20,9 +20,6 @@ Inv-loop bytes at width value₀ i₀ value i = (i ≤ width) × (value ≡ fiel
 abbrev μ-loop : tie.MeasureT-loop
 μ-loop bytes at width value₀ i₀ value i = width - i
 
-is-field-requires : tie.Need-is-field-requires Inv-loop μ-loop
-is-field-requires c κs = search needs
-
 returns : tie.Need-returns Inv-loop μ-loop
 unfolding found
 returns c = rw (sym (c .before .is-field .ensures) ∙ not-true (c .before .is-field .result) (c .if1 .taken))
@@ -55,9 +52,6 @@ add-bit-of c = omega (arith, inside (c .before .before))
 shared-slice-read-bit-of : tie.Need-shared-slice-read-bit-of Inv-loop μ-loop
 shared-slice-read-bit-of c = omega (arith, inside (c .before .before .before))
 
-bit-of-requires : tie.Need-bit-of-requires Inv-loop μ-loop
-bit-of-requires c κs = search needs
-
 -- the bit read is the field's next
 bit-is : (c : tie.After-bit-of Inv-loop μ-loop)
     → c .bit-of .result ≡ bitAt (now (c .before .before .before .before .before .before .before .args .bytes))
@@ -70,9 +64,6 @@ add-value c = omega (arith, value-lt (c .before .before), c .bit-of .ensures)
 
 add-i : tie.Need-add-i Inv-loop μ-loop
 add-i c = omega (arith, inside (c .before .before .before .before))
-
-loop-less : tie.Need-loop-less Inv-loop μ-loop
-loop-less c = omega arith
 
 loop-again : tie.Need-loop-again Inv-loop μ-loop
 unfolding field
@@ -91,16 +82,16 @@ read-spec =
     (tie.spec
     Inv-loop
     μ-loop
-    is-field-requires
+    (λ c κs. search needs)
     returns
     loop-holds
     add-bit
     mul-value
     add-bit-of
     shared-slice-read-bit-of
-    bit-of-requires
+    (λ c κs. search needs)
     add-value
     add-i
-    loop-less
+    (λ c. omega arith)
     loop-again
     returns-2)

@@ -7,9 +7,6 @@ use lib.Pow.{pow-add, shl-shr}
 use Rattle.fields.proofs.weight_of.Statement.{statement}
 use Rattle.fields.proofs.weight_of.Tie as tie
 
-shr-result : tie.Need-shr-result
-shr-result c = search needs
-
 returns : tie.Need-returns
 returns c =
     let place = c .args .place in
@@ -17,4 +14,4 @@ returns c =
     ap (λ (n : ℕ). n / 2 ^ place) (ap (λ (k : ℕ). 2 ^ k) all ∙ pow-add 2 (7 - place) place) ∙ shl-shr (2 ^ (7 - place)) place
 
 pub weight-of-spec : {M : Type 1} → statement M
-weight-of-spec = tie.close (tie.spec shr-result returns)
+weight-of-spec = tie.close (tie.spec (λ c. search needs) returns)

@@ -8,12 +8,6 @@ use Rattle.fields.proofs.Bits.{bit-le, putBit, putBit-lt}
 use Rattle.fields.proofs.with_bit.Statement.{statement}
 use Rattle.fields.proofs.with_bit.Tie as tie
 
-weight-of-requires : tie.Need-weight-of-requires
-weight-of-requires c κs = search needs
-
-bit-of-requires : tie.Need-bit-of-requires
-bit-of-requires c κs = search needs
-
 abbrev byte : tie.After-bit-of → ℕ
 byte c = c .before .before .args .byte
 
@@ -49,4 +43,4 @@ returns : tie.Need-returns
 returns c = rw (c .bit-of .ensures, c .before .weight-of .ensures)
 
 pub with-bit-spec : {M : Type 1} → statement M
-with-bit-spec = tie.close (tie.spec weight-of-requires bit-of-requires mul-result sub-result mul-result-2 add-result cast-result returns)
+with-bit-spec = tie.close (tie.spec (λ c κs. search needs) (λ c κs. search needs) mul-result sub-result mul-result-2 add-result cast-result returns)

@@ -40,12 +40,6 @@ too-wide bytes at w x h =
 refused : (bytes : List ℕ) (at w x : ℕ) → takes bytes at w x ≡ false → Wrote bytes at w x Stored.NoField bytes
 refused bytes at w x e = record { answers = rw e; leaves = rw e }
 
-is-field-requires : tie.Need-is-field-requires Inv-loop μ-loop
-is-field-requires c κs = search needs
-
-same-length : tie.Need-same-length Inv-loop μ-loop
-same-length c = search needs
-
 returns : tie.Need-returns Inv-loop μ-loop
 returns c =
     let args = c .before .before .before .before .args in
@@ -62,9 +56,6 @@ inside c =
 
 shr-if2 : tie.Need-shr-if2 Inv-loop μ-loop
 shr-if2 c = omega (arith, inside c)
-
-same-length-2 : tie.Need-same-length-2 Inv-loop μ-loop
-same-length-2 c = search needs
 
 returns-2 : tie.Need-returns-2 Inv-loop μ-loop
 returns-2 c =
@@ -96,26 +87,14 @@ same c =
 slice-read-with-bit : tie.Need-slice-read-with-bit Inv-loop μ-loop
 slice-read-with-bit c = omega (arith, inside (c .before .before .before .before), same (c .before .before))
 
-sub-with-bit : tie.Need-sub-with-bit Inv-loop μ-loop
-sub-with-bit c = omega arith
-
-sub-with-bit-2 : tie.Need-sub-with-bit-2 Inv-loop μ-loop
-sub-with-bit-2 c = omega arith
-
 shr-with-bit : tie.Need-shr-with-bit Inv-loop μ-loop
 shr-with-bit c = omega (arith, inside (c .before .before .before .before))
-
-with-bit-requires : tie.Need-with-bit-requires Inv-loop μ-loop
-with-bit-requires c κs = omega arith
 
 slice-write-bytes : tie.Need-slice-write-bytes Inv-loop μ-loop
 slice-write-bytes c = omega (arith, inside (c .before .before .before .before .before), same (c .before .before .before))
 
 add-done : tie.Need-add-done Inv-loop μ-loop
 add-done c = omega (arith, inside (c .before .before .before .before .before))
-
-loop-less : tie.Need-loop-less Inv-loop μ-loop
-loop-less c = omega arith
 
 -- one turn: the store is that of one more bit
 turn : (bytes : List ℕ) (at w x i : ℕ) (l : List ℕ) → i < w → l ≡ withField bytes at i (x / 2 ^ (w - i))
@@ -161,23 +140,23 @@ write-spec =
     (tie.spec
     Inv-loop
     μ-loop
-    is-field-requires
-    same-length
+    (λ c κs. search needs)
+    (λ c. search needs)
     returns
     shr-if2
-    same-length-2
+    (λ c. search needs)
     returns-2
     loop-holds
     add-bit
     add-byte
     slice-read-with-bit
-    sub-with-bit
-    sub-with-bit-2
+    (λ c. omega arith)
+    (λ c. omega arith)
     shr-with-bit
-    with-bit-requires
+    (λ c κs. omega arith)
     slice-write-bytes
     add-done
-    loop-less
+    (λ c. omega arith)
     loop-again
     same-length-3
     returns-3)

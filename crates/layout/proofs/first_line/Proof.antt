@@ -11,9 +11,6 @@ use Rattle.layout.proofs.Calls.{accepted, refused, first-kept, first-no
 use Rattle.layout.proofs.first_line.Statement.{statement}
 use Rattle.layout.proofs.first_line.Tie as tie
 
-is-shelf-requires : tie.Need-is-shelf-requires
-is-shelf-requires c κs = search needs
-
 returns : tie.Need-returns
 returns c =
     let a = c .before .before .before .args in
@@ -33,9 +30,6 @@ returns-2 c =
 first-requires : tie.Need-first-requires
 first-requires c κs = (shelf (c .before .before), omega (arith, c .before .if2 .left))
 
-same-length : tie.Need-same-length
-same-length c = search needs
-
 returns-3 : tie.Need-returns-3
 returns-3 c =
     let e = c .before .before .before .before in
@@ -46,4 +40,4 @@ returns-3 c =
 
 pub first-line-spec : {M : Type 1} → statement M
 first-line-spec =
-    tie.close (tie.spec is-shelf-requires returns returns-2 first-requires same-length returns-3)
+    tie.close (tie.spec (λ c κs. search needs) returns returns-2 first-requires (λ c. search needs) returns-3)

@@ -24,9 +24,6 @@ rules s = linesRules (s .args .shelf) (s .args .first) (s .args .n) (s .args .bu
 abbrev text : tie.Start → List ℕ
 text s = linesFrom (layoutIn (s .args .shelf)) (s .args .first) (s .args .n)
 
-is-shelf-requires : tie.Need-is-shelf-requires
-is-shelf-requires c κs = search needs
-
 returns : tie.Need-returns
 returns c =
     let s = c .before .before .before in
@@ -81,9 +78,6 @@ lines-requires c κs =
     let e = c .before in
     (shelf (e .before .before .before .before), range (e .before), room e)
 
-same-length : tie.Need-same-length
-same-length c = search needs
-
 returns-5 : tie.Need-returns-5
 returns-5 c =
     let e = c .before .before .before .before in
@@ -98,12 +92,12 @@ pub lines-spec : {M : Type 1} → statement M
 lines-spec =
     tie.close
     (tie.spec
-    is-shelf-requires
+    (λ c κs. search needs)
     returns
     stripes-requires
     returns-2
     returns-3
     returns-4
     lines-requires
-    same-length
+    (λ c. search needs)
     returns-5)

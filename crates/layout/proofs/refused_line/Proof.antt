@@ -15,9 +15,6 @@ returns c =
 refused-requires : tie.Need-refused-requires
 refused-requires c κs = omega (arith, c .before .if1 .left)
 
-same-length : tie.Need-same-length
-same-length c = search needs
-
 returns-2 : tie.Need-returns-2
 returns-2 c =
     let e = c .before .before .before .before in
@@ -27,4 +24,4 @@ returns-2 c =
     (c .before .before .refused .ensures)
 
 pub refused-line-spec : {M : Type 1} → statement M
-refused-line-spec = tie.close (tie.spec returns refused-requires same-length returns-2)
+refused-line-spec = tie.close (tie.spec returns refused-requires (λ c. search needs) returns-2)

@@ -15,15 +15,6 @@ use Rattle.parity.proofs.lose.Tie as tie
 abbrev losing : Verdict → Shelf → Losing
 losing v h = record { verdict = v; shelf = h }
 
-of-lose-requires : tie.Need-of-lose-requires
-of-lose-requires c κs = search needs
-
-enum-told : tie.Need-enum-told
-enum-told c = search needs
-
-enum-told-2 : tie.Need-enum-told-2
-enum-told-2 c = search needs
-
 returns : tie.Need-returns
 unfolding lost
 returns c =
@@ -36,9 +27,6 @@ cast-t5 c =
     let w = lose-accepted _ _ .0 (sym (c .before .before .of-lose .ensures) ∙ c .enum-told .given .1) in
     omega (arith, w .disk, shelf-parts _ (w .shelf) .limits .v-most)
 
-with-loss-requires : tie.Need-with-loss-requires
-with-loss-requires c κs = search needs
-
 returns-2 : tie.Need-returns-2
 unfolding lost
 returns-2 c =
@@ -48,4 +36,4 @@ returns-2 c =
 pub lose-spec : {M : Type 1} → statement M
 lose-spec =
     tie.close
-    (tie.spec of-lose-requires enum-told enum-told-2 returns cast-t5 with-loss-requires returns-2)
+    (tie.spec (λ c κs. search needs) (λ c. search needs) (λ c. search needs) returns cast-t5 (λ c κs. search needs) returns-2)

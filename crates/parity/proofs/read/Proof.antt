@@ -6,15 +6,6 @@ use Rattle.parity.proofs.Accepted.{unit-accepted}
 use Rattle.parity.proofs.read.Statement.{statement}
 use Rattle.parity.proofs.read.Tie as tie
 
-of-unit-requires : tie.Need-of-unit-requires
-of-unit-requires c κs = search needs
-
-enum-told : tie.Need-enum-told
-enum-told c = search needs
-
-enum-told-2 : tie.Need-enum-told-2
-enum-told-2 c = search needs
-
 returns : tie.Need-returns
 returns c =
     let judged = c .before .before .of-unit .ensures in
@@ -23,9 +14,6 @@ returns c =
 
 fetch-requires : tie.Need-fetch-requires
 fetch-requires c κs = unit-accepted _ _ _ _ .0 (sym (c .before .before .before .of-unit .ensures) ∙ c .before .enum-told .given .1)
-
-same-length : tie.Need-same-length
-same-length c = search needs
 
 returns-2 : tie.Need-returns-2
 returns-2 c =
@@ -38,4 +26,4 @@ returns-2 c =
 pub read-spec : {M : Type 1} → statement M
 read-spec =
     tie.close
-    (tie.spec of-unit-requires enum-told enum-told-2 returns fetch-requires same-length returns-2)
+    (tie.spec (λ c κs. search needs) (λ c. search needs) (λ c. search needs) returns fetch-requires (λ c. search needs) returns-2)

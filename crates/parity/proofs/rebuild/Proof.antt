@@ -21,15 +21,6 @@ same-answer p q r = rw (p, q, r)
 accepted : (c : tie.After-enum-told) → LostCall (c .before .before .before .before .args .shelf) (c .before .before .before .before .args .image .now)
 accepted c = rebuild-accepted _ _ .0 (sym (c .before .before .of-rebuild .ensures) ∙ c .enum-told .given .1)
 
-of-rebuild-requires : tie.Need-of-rebuild-requires
-of-rebuild-requires c κs = search needs
-
-enum-told : tie.Need-enum-told
-enum-told c = search needs
-
-enum-told-2 : tie.Need-enum-told-2
-enum-told-2 c = search needs
-
 returns : tie.Need-returns
 returns c =
     let judged = c .before .before .of-rebuild .ensures in
@@ -44,12 +35,6 @@ restore-disk-requires c κs = accepted (c .before) .stored
 
 counts-requires : tie.Need-counts-requires
 counts-requires c κs = accepted (c .before .before .before .before) .stored .shelf
-
-with-loss-requires : tie.Need-with-loss-requires
-with-loss-requires c κs = search needs
-
-same-length : tie.Need-same-length
-same-length c = search needs
 
 returns-2 : tie.Need-returns-2
 returns-2 c =
@@ -66,12 +51,12 @@ pub rebuild-spec : {M : Type 1} → statement M
 rebuild-spec =
     tie.close
     (tie.spec
-    of-rebuild-requires
-    enum-told
-    enum-told-2
+    (λ c κs. search needs)
+    (λ c. search needs)
+    (λ c. search needs)
     returns
     restore-disk-requires
     counts-requires
-    with-loss-requires
-    same-length
+    (λ c κs. search needs)
+    (λ c. search needs)
     returns-2)

@@ -13,15 +13,6 @@ use Rattle.parity.proofs.scrub.Tie as tie
 abbrev scrubbing : Verdict → ℕ → Scrubbing
 scrubbing v n = record { verdict = v; wrong = n }
 
-of-whole-requires : tie.Need-of-whole-requires
-of-whole-requires c κs = search needs
-
-enum-told : tie.Need-enum-told
-enum-told c = search needs
-
-enum-told-2 : tie.Need-enum-told-2
-enum-told-2 c = search needs
-
 returns : tie.Need-returns
 unfolding scrubbed
 returns c =
@@ -40,4 +31,4 @@ returns-2 c =
     ap₂ scrubbing judged (accepted-gives _ _ judged (c .before .enum-told .given .1) (c .count-wrong .ensures))
 
 pub scrub-spec : {M : Type 1} → statement M
-scrub-spec = tie.close (tie.spec of-whole-requires enum-told enum-told-2 returns count-wrong-requires returns-2)
+scrub-spec = tie.close (tie.spec (λ c κs. search needs) (λ c. search needs) (λ c. search needs) returns count-wrong-requires returns-2)

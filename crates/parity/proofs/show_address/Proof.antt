@@ -7,18 +7,6 @@ use Rattle.parity.proofs.Accepted.{unit-accepted}
 use Rattle.parity.proofs.show_address.Statement.{statement}
 use Rattle.parity.proofs.show_address.Tie as tie
 
-of-unit-requires : tie.Need-of-unit-requires
-of-unit-requires c κs = search needs
-
-enum-told : tie.Need-enum-told
-enum-told c = search needs
-
-enum-told-2 : tie.Need-enum-told-2
-enum-told-2 c = search needs
-
-slice-aggregate-result : tie.Need-slice-aggregate-result
-slice-aggregate-result c = search needs
-
 returns : tie.Need-returns
 unfolding addressShown
 returns c =
@@ -35,4 +23,4 @@ returns-2 c = accepted-gives _ _ (c .before .before .before .of-unit .ensures) (
 pub show-address-spec : {M : Type 1} → statement M
 show-address-spec =
     tie.close
-    (tie.spec of-unit-requires enum-told enum-told-2 slice-aggregate-result returns shown-requires returns-2)
+    (tie.spec (λ c κs. search needs) (λ c. search needs) (λ c. search needs) (λ c. search needs) returns shown-requires returns-2)

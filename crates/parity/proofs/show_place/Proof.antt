@@ -7,18 +7,6 @@ use Rattle.parity.proofs.Accepted.{show-place-accepted}
 use Rattle.parity.proofs.show_place.Statement.{statement}
 use Rattle.parity.proofs.show_place.Tie as tie
 
-of-place-requires : tie.Need-of-place-requires
-of-place-requires c κs = search needs
-
-enum-told : tie.Need-enum-told
-enum-told c = search needs
-
-enum-told-2 : tie.Need-enum-told-2
-enum-told-2 c = search needs
-
-slice-aggregate-result : tie.Need-slice-aggregate-result
-slice-aggregate-result c = search needs
-
 returns : tie.Need-returns
 unfolding placeShown
 returns c =
@@ -38,4 +26,4 @@ returns-2 c = accepted-gives _ _ (c .before .before .before .of-place .ensures) 
 pub show-place-spec : {M : Type 1} → statement M
 show-place-spec =
     tie.close
-    (tie.spec of-place-requires enum-told enum-told-2 slice-aggregate-result returns part-requires returns-2)
+    (tie.spec (λ c κs. search needs) (λ c. search needs) (λ c. search needs) (λ c. search needs) returns part-requires returns-2)

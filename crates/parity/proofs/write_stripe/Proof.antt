@@ -6,15 +6,6 @@ use Rattle.parity.proofs.Accepted.{stripe-write-accepted}
 use Rattle.parity.proofs.write_stripe.Statement.{statement}
 use Rattle.parity.proofs.write_stripe.Tie as tie
 
-of-stripe-requires : tie.Need-of-stripe-requires
-of-stripe-requires c κs = search needs
-
-enum-told : tie.Need-enum-told
-enum-told c = search needs
-
-enum-told-2 : tie.Need-enum-told-2
-enum-told-2 c = search needs
-
 returns : tie.Need-returns
 returns c =
     let judged = c .before .before .of-stripe .ensures in
@@ -23,9 +14,6 @@ returns c =
 
 store-stripe-requires : tie.Need-store-stripe-requires
 store-stripe-requires c κs = stripe-write-accepted _ _ _ _ .0 (sym (c .before .before .before .of-stripe .ensures) ∙ c .before .enum-told .given .1)
-
-same-length : tie.Need-same-length
-same-length c = search needs
 
 returns-2 : tie.Need-returns-2
 returns-2 c =
@@ -38,4 +26,4 @@ returns-2 c =
 pub write-stripe-spec : {M : Type 1} → statement M
 write-stripe-spec =
     tie.close
-    (tie.spec of-stripe-requires enum-told enum-told-2 returns store-stripe-requires same-length returns-2)
+    (tie.spec (λ c κs. search needs) (λ c. search needs) (λ c. search needs) returns store-stripe-requires (λ c. search needs) returns-2)

@@ -25,9 +25,6 @@ all-kept c =
     let below = c .before .before in
     record { shelf = shelf-kept (below .before .before); disk = below .if2 .left; offset = omega (arith, c .before .offsets .ensures) }
 
-is-shelf-requires : tie.Need-is-shelf-requires
-is-shelf-requires c κs = search needs
-
 returns : tie.Need-returns
 returns c = sym (looked-up-not-a-shelf _ _ _ (sym (c .before .is-shelf .ensures) ∙ not-true _ (c .if1 .taken)))
 
@@ -50,4 +47,4 @@ returns-4 c = c .stands-at .ensures ∙ sym (looked-up _ _ _ (all-kept (c .befor
 pub look-up-spec : {M : Type 1} → statement M
 look-up-spec =
     tie.close
-    (tie.spec is-shelf-requires returns returns-2 offsets-requires returns-3 stands-at-requires returns-4)
+    (tie.spec (λ c κs. search needs) returns returns-2 offsets-requires returns-3 stands-at-requires returns-4)

@@ -17,9 +17,6 @@ shelf c = c .before .before .args .shelf
 shelf-kept : (c : tie.Else1) → isShelf (shelf c) ≡ true
 shelf-kept c = sym (c .before .is-shelf .ensures) ∙ not-false _ (c .if1 .left)
 
-is-shelf-requires : tie.Need-is-shelf-requires
-is-shelf-requires c κs = search needs
-
 returns : tie.Need-returns
 returns c = sym (placed-not-a-shelf _ _ (sym (c .before .is-shelf .ensures) ∙ not-true _ (c .if1 .taken)))
 
@@ -42,4 +39,4 @@ returns-3 c =
 pub place-spec : {M : Type 1} → statement M
 place-spec =
     tie.close
-    (tie.spec is-shelf-requires returns addresses-requires returns-2 spot-requires returns-3)
+    (tie.spec (λ c κs. search needs) returns addresses-requires returns-2 spot-requires returns-3)

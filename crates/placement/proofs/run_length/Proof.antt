@@ -4,12 +4,6 @@ use Rattle.placement.specs.Placed.{lengthBy}
 use Rattle.placement.proofs.run_length.Statement.{statement}
 use Rattle.placement.proofs.run_length.Tie as tie
 
-enum-told : tie.Need-enum-told
-enum-told c = search needs
-
-enum-told-2 : tie.Need-enum-told-2
-enum-told-2 c = search needs
-
 returns : tie.Need-returns
 unfolding lengthBy
 returns c = rw (c .enum-told .given .1)
@@ -19,4 +13,4 @@ unfolding lengthBy
 returns-2 c = rw (c .enum-told2 .given .1)
 
 pub run-length-spec : {M : Type 1} → statement M
-run-length-spec = tie.close (tie.spec enum-told enum-told-2 returns returns-2)
+run-length-spec = tie.close (tie.spec (λ c. search needs) (λ c. search needs) returns returns-2)

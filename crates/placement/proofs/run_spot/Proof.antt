@@ -11,8 +11,5 @@ add-spot c = omega (arith, c .pre .1, bounds (c .args .shelf) (c .pre .0) .addre
 spot-requires : tie.Need-spot-requires
 spot-requires c κs = c .pre
 
-returns : tie.Need-returns
-returns c = search needs
-
 pub run-spot-spec : {M : Type 1} → statement M
-run-spot-spec = tie.close (tie.spec add-spot spot-requires returns)
+run-spot-spec = tie.close (tie.spec add-spot spot-requires (λ c. search needs))

@@ -10,9 +10,6 @@ use Rattle.placement.proofs.Running.{runs-accepted, run-not-a-shelf, ru
 use Rattle.placement.proofs.run_verdict.Statement.{statement}
 use Rattle.placement.proofs.run_verdict.Tie as tie
 
-is-shelf-requires : tie.Need-is-shelf-requires
-is-shelf-requires c κs = search needs
-
 returns : tie.Need-returns
 returns c =
     let args = c .before .before .args in
@@ -41,4 +38,4 @@ returns-4 c =
     sym (runs-accepted (args .shelf) (args .first) (args .n) (record { shelf = shelf (c .before .before .before); range = omega (arith, c .before .before .addresses .ensures, c .before .if2 .left, c .if3 .left) }))
 
 pub run-verdict-spec : {M : Type 1} → statement M
-run-verdict-spec = tie.close (tie.spec is-shelf-requires returns addresses-requires returns-2 returns-3 returns-4)
+run-verdict-spec = tie.close (tie.spec (λ c κs. search needs) returns addresses-requires returns-2 returns-3 returns-4)

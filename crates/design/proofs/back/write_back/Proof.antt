@@ -13,9 +13,6 @@ use Rattle.design.proofs.Packing.{back-not-a-shelf, back-other-buffer, 
 use Rattle.design.proofs.back.write_back.Statement.{statement}
 use Rattle.design.proofs.back.write_back.Tie as tie
 
-is-shelf-requires : tie.Need-is-shelf-requires
-is-shelf-requires c κs = search needs
-
 returns : tie.Need-returns
 returns c =
     let args = c .before .before .before .args in
@@ -39,9 +36,6 @@ returns-2 c =
     let args = c .before .before .before .before .before .before .args in
     back-other-buffer (args .shelf) (args .buffer .now) (shelf (c .before .before .before)) (omega (arith, c .before .sheet-length .ensures))
 
-slice-relend-prefix-write-sheet : tie.Need-slice-relend-prefix-write-sheet
-slice-relend-prefix-write-sheet c = omega arith
-
 -- the part that is lent has the sheet's length
 part-length : (c : tie.After-write-sheet-arg)
     → length (take (c .before .before .sheet-length .result) (c .before .before .before .before .before .before .before .args .buffer .now))
@@ -55,9 +49,6 @@ slice-aggregate-write-sheet c = sym (part-length c)
 write-sheet-requires : tie.Need-write-sheet-requires
 write-sheet-requires c κs = (shelf (c .before .before .before .before), part-length c ∙ c .before .before .sheet-length .ensures)
 
-same-length : tie.Need-same-length
-same-length c = search needs
-
 returns-3 : tie.Need-returns-3
 returns-3 c =
     let at-length = c .before .before .before .before .before in
@@ -69,13 +60,13 @@ pub write-back-spec : {M : Type 1} → statement M
 write-back-spec =
     tie.close
     (tie.spec
-    is-shelf-requires
+    (λ c κs. search needs)
     returns
     mul-sheet-length
     sheet-length-requires
     returns-2
-    slice-relend-prefix-write-sheet
+    (λ c. omega arith)
     slice-aggregate-write-sheet
     write-sheet-requires
-    same-length
+    (λ c. search needs)
     returns-3)

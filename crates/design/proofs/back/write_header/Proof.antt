@@ -12,27 +12,6 @@ use Rattle.design.proofs.Packing.{bitsOf, packed-none, packed-wrote}
 use Rattle.design.proofs.back.write_header.Statement.{statement}
 use Rattle.design.proofs.back.write_header.Tie as tie
 
-write-requires : tie.Need-write-requires
-write-requires c κs = search needs
-
-write-requires-2 : tie.Need-write-requires-2
-write-requires-2 c κs = search needs
-
-write-requires-3 : tie.Need-write-requires-3
-write-requires-3 c κs = search needs
-
-write-requires-4 : tie.Need-write-requires-4
-write-requires-4 c κs = search needs
-
-write-requires-5 : tie.Need-write-requires-5
-write-requires-5 c κs = search needs
-
-write-requires-6 : tie.Need-write-requires-6
-write-requires-6 c κs = search needs
-
-same-length : tie.Need-same-length
-same-length c = search needs
-
 returns : tie.Need-returns
 unfolding headerIn bitsOf
 returns c =
@@ -58,11 +37,11 @@ pub write-header-spec : {M : Type 1} → statement M
 write-header-spec =
     tie.close
     (tie.spec
-    write-requires
-    write-requires-2
-    write-requires-3
-    write-requires-4
-    write-requires-5
-    write-requires-6
-    same-length
+    (λ c κs. search needs)
+    (λ c κs. search needs)
+    (λ c κs. search needs)
+    (λ c κs. search needs)
+    (λ c κs. search needs)
+    (λ c κs. search needs)
+    (λ c. search needs)
     returns)

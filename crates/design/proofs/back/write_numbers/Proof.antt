@@ -20,26 +20,8 @@ loop-holds : tie.Need-loop-holds Inv-loop μ-loop
 unfolding packed numbersIn
 loop-holds c = (omega arith, refl)
 
-mul-write : tie.Need-mul-write Inv-loop μ-loop
-mul-write c = omega arith
-
-add-write : tie.Need-add-write Inv-loop μ-loop
-add-write c = omega arith
-
-element-copy-out-write : tie.Need-element-copy-out-write Inv-loop μ-loop
-element-copy-out-write c = omega arith
-
 cast-write : tie.Need-cast-write Inv-loop μ-loop
 cast-write c = omega (arith, c .before .before .before .before .before .pre .1 (c .before .before .before .loop .i) (c .before .before .loop-test .taken))
-
-write-requires : tie.Need-write-requires Inv-loop μ-loop
-write-requires c κs = search needs
-
-add-i : tie.Need-add-i Inv-loop μ-loop
-add-i c = omega arith
-
-loop-less : tie.Need-loop-less Inv-loop μ-loop
-loop-less c = omega arith
 
 loop-again : tie.Need-loop-again Inv-loop μ-loop
 loop-again c =
@@ -68,13 +50,13 @@ write-numbers-spec =
     Inv-loop
     μ-loop
     loop-holds
-    mul-write
-    add-write
-    element-copy-out-write
+    (λ c. omega arith)
+    (λ c. omega arith)
+    (λ c. omega arith)
     cast-write
-    write-requires
-    add-i
-    loop-less
+    (λ c κs. search needs)
+    (λ c. omega arith)
+    (λ c. omega arith)
     loop-again
     same-length
     returns)

@@ -13,9 +13,6 @@ use Rattle.design.proofs.Packing.{sheet-packed, table-length}
 use Rattle.design.proofs.back.write_sheet.Statement.{statement}
 use Rattle.design.proofs.back.write_sheet.Tie as tie
 
-clear-requires : tie.Need-clear-requires
-clear-requires c κs = search needs
-
 write-header-requires : tie.Need-write-header-requires
 unfolding sheetLength
 write-header-requires c κs =
@@ -39,9 +36,6 @@ write-numbers-requires c κs =
       λ i l. omega (arith, p .below i l, p .limits .v-most),
     )
 
-same-length : tie.Need-same-length
-same-length c = search needs
-
 returns : tie.Need-returns
 returns c =
     let at-numbers = c .before .before in
@@ -58,9 +52,9 @@ pub write-sheet-spec : {M : Type 1} → statement M
 write-sheet-spec =
     tie.close
     (tie.spec
-    clear-requires
+    (λ c κs. search needs)
     write-header-requires
     mul-write-numbers
     write-numbers-requires
-    same-length
+    (λ c. search needs)
     returns)

@@ -7,12 +7,6 @@ use Rattle.design.specs.Sheet.{sheetLength, fillingZero}
 use Rattle.design.proofs.read.filling_zero.Statement.{statement}
 use Rattle.design.proofs.read.filling_zero.Tie as tie
 
-mul-at : tie.Need-mul-at
-mul-at c = search needs
-
-add-at : tie.Need-add-at
-add-at c = search needs
-
 mul-width : tie.Need-mul-width
 unfolding sheetLength
 mul-width c = omega arith
@@ -34,4 +28,4 @@ unfolding fillingZero
 returns-2 c = rw (c .number .ensures)
 
 pub filling-zero-spec : {M : Type 1} → statement M
-filling-zero-spec = tie.close (tie.spec mul-at add-at mul-width sub-width returns number-requires returns-2)
+filling-zero-spec = tie.close (tie.spec (λ c. search needs) (λ c. search needs) mul-width sub-width returns number-requires returns-2)

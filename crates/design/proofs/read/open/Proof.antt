@@ -15,28 +15,13 @@ use Rattle.design.proofs.Opening.{short, other-edition, outside-limits,
 use Rattle.design.proofs.read.open.Statement.{statement}
 use Rattle.design.proofs.read.open.Tie as tie
 
-refused-requires : tie.Need-refused-requires
-refused-requires c κs = search needs
-
 returns : tie.Need-returns
 returns c = c .refused .ensures ∙ short _ (lt-leb _ _ (c .before .if1 .taken))
-
-read-header-requires : tie.Need-read-header-requires
-read-header-requires c κs = search needs
-
-refused-requires-2 : tie.Need-refused-requires-2
-refused-requires-2 c κs = search needs
 
 returns-2 : tie.Need-returns-2
 returns-2 c =
     let n = c .before .before .before in
     c .refused2 .ensures ∙ other-edition _ (le-leb _ _ (n .before .if1 .left)) (ne-eqb _ _ (λ e. c .before .if2 .taken (n .read-header .ensures .0 ∙ e)))
-
-within-limits-requires : tie.Need-within-limits-requires
-within-limits-requires c κs = search needs
-
-refused-requires-3 : tie.Need-refused-requires-3
-refused-requires-3 c κs = search needs
 
 -- ---- the five numbers are the header's
 
@@ -75,9 +60,6 @@ mul-sheet-length c = omega (arith, within c .places)
 sheet-length-requires : tie.Need-sheet-length-requires
 sheet-length-requires c κs = within c .places
 
-refused-requires-4 : tie.Need-refused-requires-4
-refused-requires-4 c κs = search needs
-
 returns-4 : tie.Need-returns-4
 returns-4 c =
     let l = c .before .before in
@@ -104,24 +86,21 @@ open-table-requires c κs =
       u-is = h .5;
     }
 
-returns-5 : tie.Need-returns-5
-returns-5 c = search needs
-
 pub open-spec : {M : Type 1} → statement M
 open-spec =
     tie.close
     (tie.spec
-    refused-requires
+    (λ c κs. search needs)
     returns
-    read-header-requires
-    refused-requires-2
+    (λ c κs. search needs)
+    (λ c κs. search needs)
     returns-2
-    within-limits-requires
-    refused-requires-3
+    (λ c κs. search needs)
+    (λ c κs. search needs)
     returns-3
     mul-sheet-length
     sheet-length-requires
-    refused-requires-4
+    (λ c κs. search needs)
     returns-4
     open-table-requires
-    returns-5)
+    (λ c. search needs))

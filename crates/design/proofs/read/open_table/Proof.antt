@@ -27,9 +27,6 @@ table-of-requires c κs = (within (c .before) .places, c .before .pre .exact)
 disks-below-requires : tie.Need-disks-below-requires
 disks-below-requires c κs = within (c .before .before .before) .places
 
-refused-requires : tie.Need-refused-requires
-refused-requires c κs = search needs
-
 abbrev design : tie.Start → Design
 design c = readDesign (c .args .sheet .now) (c .args .v) (c .args .k) (c .args .b)
 
@@ -52,9 +49,6 @@ below c = below-tested (c .before) ∙ not-false _ (c .if1 .left)
 none-twice-requires : tie.Need-none-twice-requires
 none-twice-requires c κs = within (c .before .before .before .before .before .before) .places
 
-refused-requires-2 : tie.Need-refused-requires-2
-refused-requires-2 c κs = search needs
-
 once-tested : (c : tie.After-none-twice) → noneTwice (design (start (c .before .before))) ≡ c .none-twice .result
 once-tested c = sym (once-read _ _ _ _ _ (c .before .before .before .before .before .table-of .ensures) (c .none-twice .ensures))
 
@@ -71,9 +65,6 @@ filling-zero-requires : tie.Need-filling-zero-requires
 filling-zero-requires c κs =
     let s = start (c .before .before .before) in
     (within s .places, s .pre .exact)
-
-refused-requires-3 : tie.Need-refused-requires-3
-refused-requires-3 c κs = search needs
 
 returns-3 : tie.Need-returns-3
 returns-3 c =
@@ -120,17 +111,8 @@ disks-tested c =
     ap (disksEven (design (start e))) (sym (r-counted n))
     ∙ sym (disks-read _ _ _ _ _ (e .before .before .before .table-of .ensures) (within (start e) .v-most) (n .tally .result) (n .tally .ensures) _ (c .disks-even .ensures))
 
-array-read-r : tie.Need-array-read-r
-array-read-r c = search needs
-
-cast-r : tie.Need-cast-r
-cast-r c = search needs
-
 disks-even-requires : tie.Need-disks-even-requires
 disks-even-requires c κs = within (start (first (c .before .before .before))) .v-most
-
-refused-requires-4 : tie.Need-refused-requires-4
-refused-requires-4 c κs = search needs
 
 returns-4 : tie.Need-returns-4
 returns-4 c =
@@ -142,12 +124,6 @@ returns-4 c =
 even : (c : tie.Else4) → let D = design (start (first (c .before .before .before .before .before))) in disksEven D (before D (D .b) 0) ≡ true
 even c = disks-tested (c .before) ∙ not-false _ (c .if4 .left)
 
-array-read-lambda : tie.Need-array-read-lambda
-array-read-lambda c = search needs
-
-cast-lambda : tie.Need-cast-lambda
-cast-lambda c = search needs
-
 pairs-even-requires : tie.Need-pairs-even-requires
 pairs-even-requires c κs = within (start (first (c .before .before .before .before .before .before))) .v-most
 
@@ -158,9 +134,6 @@ pairs-tested c =
     let e = first (n .before .before) in
     ap (pairsEven (design (start e))) (sym (lambda-counted n))
     ∙ sym (pairs-read _ _ _ _ _ (e .before .before .before .table-of .ensures) (within (start e) .v-most) (n .tally .result) (n .tally .ensures) _ (c .pairs-even .ensures))
-
-refused-requires-5 : tie.Need-refused-requires-5
-refused-requires-5 c κs = search needs
 
 returns-5 : tie.Need-returns-5
 returns-5 c =
@@ -188,23 +161,23 @@ open-table-spec =
     mul-n
     table-of-requires
     disks-below-requires
-    refused-requires
+    (λ c κs. search needs)
     returns
     none-twice-requires
-    refused-requires-2
+    (λ c κs. search needs)
     returns-2
     filling-zero-requires
-    refused-requires-3
+    (λ c κs. search needs)
     returns-3
     tally-requires
-    array-read-r
-    cast-r
+    (λ c. search needs)
+    (λ c. search needs)
     disks-even-requires
-    refused-requires-4
+    (λ c κs. search needs)
     returns-4
-    array-read-lambda
-    cast-lambda
+    (λ c. search needs)
+    (λ c. search needs)
     pairs-even-requires
-    refused-requires-5
+    (λ c κs. search needs)
     returns-5
     returns-6)

@@ -4,12 +4,9 @@ use Rattle.design.specs.Sheet.{openedBy}
 use Rattle.design.proofs.read.refused.Statement.{statement}
 use Rattle.design.proofs.read.refused.Tie as tie
 
-empty-requires : tie.Need-empty-requires
-empty-requires c κs = search needs
-
 returns : tie.Need-returns
 unfolding openedBy
 returns c = rw (c .empty .ensures)
 
 pub refused-spec : {M : Type 1} → statement M
-refused-spec = tie.close (tie.spec empty-requires returns)
+refused-spec = tie.close (tie.spec (λ c κs. search needs) returns)

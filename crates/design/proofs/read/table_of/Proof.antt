@@ -20,27 +20,12 @@ abbrev μ-loop : tie.MeasureT-loop
 loop-holds : tie.Need-loop-holds Inv-loop μ-loop
 loop-holds c = (omega arith, refl, filled-none _)
 
-mul-number : tie.Need-mul-number Inv-loop μ-loop
-mul-number c = omega arith
-
-add-number : tie.Need-add-number Inv-loop μ-loop
-add-number c = omega arith
-
 number-requires : tie.Need-number-requires Inv-loop μ-loop
 unfolding sheetLength
 number-requires c κs = isField-iff _ _ _ .1 (omega arith)
 
 cast-table : tie.Need-cast-table Inv-loop μ-loop
 cast-table c = omega (arith, number-lt _ _ _ (c .number .ensures))
-
-array-write-table : tie.Need-array-write-table Inv-loop μ-loop
-array-write-table c = omega arith
-
-add-i : tie.Need-add-i Inv-loop μ-loop
-add-i c = omega arith
-
-loop-less : tie.Need-loop-less Inv-loop μ-loop
-loop-less c = omega arith
 
 loop-again : tie.Need-loop-again Inv-loop μ-loop
 loop-again c =
@@ -61,12 +46,12 @@ table-of-spec =
     Inv-loop
     μ-loop
     loop-holds
-    mul-number
-    add-number
+    (λ c. omega arith)
+    (λ c. omega arith)
     number-requires
     cast-table
-    array-write-table
-    add-i
-    loop-less
+    (λ c. omega arith)
+    (λ c. omega arith)
+    (λ c. omega arith)
     loop-again
     returns)

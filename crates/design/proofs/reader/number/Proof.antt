@@ -6,15 +6,6 @@ use Rattle.design.proofs.Reading.{valueOf}
 use Rattle.design.proofs.reader.number.Statement.{statement}
 use Rattle.design.proofs.reader.number.Tie as tie
 
-read-requires : tie.Need-read-requires
-read-requires c κs = search needs
-
-enum-known-x : tie.Need-enum-known-x
-enum-known-x c = search needs
-
-enum-told : tie.Need-enum-told
-enum-told c = search needs
-
 returns : tie.Need-returns
 returns c =
     let b = c .before .before .before in
@@ -26,4 +17,4 @@ returns-2 c =
     ap valueOf (sym (c .enum-told .given .1) ∙ b .read .ensures ∙ found-value _ _ _ (isField-iff _ _ _ .0 (b .before .before .pre)))
 
 pub number-spec : {M : Type 1} → statement M
-number-spec = tie.close (tie.spec read-requires enum-known-x enum-told returns returns-2)
+number-spec = tie.close (tie.spec (λ c κs. search needs) (λ c. search needs) (λ c. search needs) returns returns-2)

@@ -75,17 +75,11 @@ pairs-is c =
 
 -- ---- the needs
 
-within-limits-requires : tie.Need-within-limits-requires
-within-limits-requires c κs = search needs
-
 returns : tie.Need-returns
 returns c = refused _ 0 (c .before .within-limits .ensures) (c .if1 .taken)
 
 mul-n : tie.Need-mul-n
 mul-n c = omega (arith, within c)
-
-zero-past-requires : tie.Need-zero-past-requires
-zero-past-requires c κs = search needs
 
 returns-2 : tie.Need-returns-2
 returns-2 c = refused _ 1 (c .before .zero-past .ensures) (c .if2 .taken)
@@ -124,9 +118,6 @@ pairs-even-requires c κs = within (from-disks (c .before .before)) .v-most
 returns-6 : tie.Need-returns-6
 returns-6 c = refused _ 5 (pairs-is (c .before)) (c .if6 .taken)
 
-loss-below-requires : tie.Need-loss-below-requires
-loss-below-requires c κs = search needs
-
 returns-7 : tie.Need-returns-7
 unfolding isShelf
 returns-7 c =
@@ -147,10 +138,10 @@ pub is-shelf-spec : {M : Type 1} → statement M
 is-shelf-spec =
     tie.close
     (tie.spec
-    within-limits-requires
+    (λ c κs. search needs)
     returns
     mul-n
-    zero-past-requires
+    (λ c κs. search needs)
     returns-2
     disks-below-requires
     returns-3
@@ -161,5 +152,5 @@ is-shelf-spec =
     returns-5
     pairs-even-requires
     returns-6
-    loss-below-requires
+    (λ c κs. search needs)
     returns-7)

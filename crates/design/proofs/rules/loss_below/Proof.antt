@@ -4,15 +4,6 @@ use Rattle.design.specs.Shelf.{lossBelow}
 use Rattle.design.proofs.rules.loss_below.Statement.{statement}
 use Rattle.design.proofs.rules.loss_below.Tie as tie
 
-enum-told : tie.Need-enum-told
-enum-told c = search needs
-
-enum-known-loss : tie.Need-enum-known-loss
-enum-known-loss c = search needs
-
-cast-result : tie.Need-cast-result
-cast-result c = search needs
-
 returns : tie.Need-returns
 unfolding lossBelow
 returns c = rw (c .enum-told .given .1)
@@ -22,4 +13,4 @@ unfolding lossBelow
 returns-2 c = rw (c .before .loss .given .1)
 
 pub loss-below-spec : {M : Type 1} → statement M
-loss-below-spec = tie.close (tie.spec enum-told enum-known-loss cast-result returns returns-2)
+loss-below-spec = tie.close (tie.spec (λ c. search needs) (λ c. search needs) (λ c. search needs) returns returns-2)

@@ -36,12 +36,6 @@ mul-twice-in c = omega (arith, mul-le-mul-right (c .before .before .args .k) (c 
 twice-in-requires : tie.Need-twice-in-requires Inv-loop μ-loop
 twice-in-requires c κs = omega (arith, mul-le-mul-right (c .before .before .args .k) (c .loop-test .taken))
 
-enum-told : tie.Need-enum-told Inv-loop μ-loop
-enum-told c = search needs
-
-enum-told-2 : tie.Need-enum-told-2 Inv-loop μ-loop
-enum-told-2 c = search needs
-
 returns : tie.Need-returns Inv-loop μ-loop
 unfolding noneTwice
 returns c =
@@ -52,12 +46,6 @@ returns c =
     let found = sym (c .before .before .twice-in .ensures) ∙ c .enum-told2 .given .1 in
     sym (every-not (b .before .args .b) (once table k) q (c .before .before .before .loop-test .taken)
     (fails (once table k q) (λ t. let z : _≡_ {A = ℕ} 0 1 = cc (found, none-repeated (tuple table k q) k .1 t) in omega arith)))
-
-add-q : tie.Need-add-q Inv-loop μ-loop
-add-q c = omega arith
-
-loop-less : tie.Need-loop-less Inv-loop μ-loop
-loop-less c = omega arith
 
 loop-again : tie.Need-loop-again Inv-loop μ-loop
 loop-again c =
@@ -83,10 +71,10 @@ none-twice-spec =
     loop-holds
     mul-twice-in
     twice-in-requires
-    enum-told
-    enum-told-2
+    (λ c. search needs)
+    (λ c. search needs)
     returns
-    add-q
-    loop-less
+    (λ c. omega arith)
+    (λ c. omega arith)
     loop-again
     returns-2)

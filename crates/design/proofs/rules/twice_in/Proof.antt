@@ -35,44 +35,11 @@ abbrev μ-search : tie.MeasureT-search
 search-holds : tie.Need-search-holds Inv-loop μ-loop Inv-search μ-search
 search-holds c = (omega arith, every-none _)
 
-add-j : tie.Need-add-j Inv-loop μ-loop Inv-search μ-search
-add-j c = omega arith
-
 loop-holds : tie.Need-loop-holds Inv-loop μ-loop Inv-search μ-search
 loop-holds c = (omega arith, λ p l h e. omega arith)
 
-add-if2 : tie.Need-add-if2 Inv-loop μ-loop Inv-search μ-search
-add-if2 c = omega arith
-
-element-copy-out-if2 : tie.Need-element-copy-out-if2 Inv-loop μ-loop Inv-search μ-search
-element-copy-out-if2 c = omega arith
-
-add-if2-2 : tie.Need-add-if2-2 Inv-loop μ-loop Inv-search μ-search
-add-if2-2 c = omega arith
-
-element-copy-out-if2-2 : tie.Need-element-copy-out-if2-2 Inv-loop μ-loop Inv-search μ-search
-element-copy-out-if2-2 c = omega arith
-
-add-t18 : tie.Need-add-t18 Inv-loop μ-loop Inv-search μ-search
-add-t18 c = omega arith
-
-element-copy-out-t21 : tie.Need-element-copy-out-t21 Inv-loop μ-loop Inv-search μ-search
-element-copy-out-t21 c = omega arith
-
-add-j-2 : tie.Need-add-j-2 Inv-loop μ-loop Inv-search μ-search
-add-j-2 c = omega arith
-
-loop-less : tie.Need-loop-less Inv-loop μ-loop Inv-search μ-search
-loop-less c = omega arith
-
 loop-again : tie.Need-loop-again Inv-loop μ-loop Inv-search μ-search
 loop-again c = (omega arith, below-more _ _ (c .before .before .before .before .loop .inv .1) (λ h. c .if2 .left))
-
-add-i : tie.Need-add-i Inv-loop μ-loop Inv-search μ-search
-add-i c = omega arith
-
-search-less : tie.Need-search-less Inv-loop μ-loop Inv-search μ-search
-search-less c = omega arith
 
 search-again : tie.Need-search-again Inv-loop μ-loop Inv-search μ-search
 search-again c =
@@ -107,19 +74,19 @@ twice-in-spec =
     Inv-search
     μ-search
     search-holds
-    add-j
+    (λ c. omega arith)
     loop-holds
-    add-if2
-    element-copy-out-if2
-    add-if2-2
-    element-copy-out-if2-2
-    add-t18
-    element-copy-out-t21
-    add-j-2
-    loop-less
+    (λ c. omega arith)
+    (λ c. omega arith)
+    (λ c. omega arith)
+    (λ c. omega arith)
+    (λ c. omega arith)
+    (λ c. omega arith)
+    (λ c. omega arith)
+    (λ c. omega arith)
     loop-again
-    add-i
-    search-less
+    (λ c. omega arith)
+    (λ c. omega arith)
     search-again
     returns
     returns-2)

@@ -37,15 +37,6 @@ one-more table n any i h e = (
 loop-holds : tie.Need-loop-holds Inv-loop μ-loop
 loop-holds c = (omega arith, omega arith, (λ e j l m. absurd (omega arith), λ z. refl))
 
-element-copy-out-any : tie.Need-element-copy-out-any Inv-loop μ-loop
-element-copy-out-any c = omega arith
-
-add-i : tie.Need-add-i Inv-loop μ-loop
-add-i c = omega arith
-
-loop-less : tie.Need-loop-less Inv-loop μ-loop
-loop-less c = omega arith
-
 loop-again : tie.Need-loop-again Inv-loop μ-loop
 loop-again c =
     let b = c .before .before in
@@ -64,4 +55,4 @@ returns c =
 pub zero-past-spec : {M : Type 1} → statement M
 zero-past-spec =
     tie.close
-    (tie.spec Inv-loop μ-loop loop-holds element-copy-out-any add-i loop-less loop-again returns)
+    (tie.spec Inv-loop μ-loop loop-holds (λ c. omega arith) (λ c. omega arith) (λ c. omega arith) loop-again returns)

@@ -38,19 +38,10 @@ mul-wide-2 c = omega (arith, within c)
 element-copy-out-wide : tie.Need-element-copy-out-wide Inv-loop μ-loop
 element-copy-out-wide c = omega (arith, within c)
 
-wide-requires : tie.Need-wide-requires Inv-loop μ-loop
-wide-requires c κs = search needs
-
 returns : tie.Need-returns Inv-loop μ-loop
 returns c =
     let a = c .before .before .before .before in
     sym (every-not _ _ (a .loop .i) (c .before .before .before .loop-test .taken) (ne-eqb _ _ (λ e. c .if1 .taken (c .before .wide .ensures ∙ e))))
-
-add-i : tie.Need-add-i Inv-loop μ-loop
-add-i c = omega arith
-
-loop-less : tie.Need-loop-less Inv-loop μ-loop
-loop-less c = omega arith
 
 loop-again : tie.Need-loop-again Inv-loop μ-loop
 loop-again c =
@@ -71,9 +62,9 @@ all-are-spec =
     add-wide
     mul-wide-2
     element-copy-out-wide
-    wide-requires
+    (λ c κs. search needs)
     returns
-    add-i
-    loop-less
+    (λ c. omega arith)
+    (λ c. omega arith)
     loop-again
     returns-2)

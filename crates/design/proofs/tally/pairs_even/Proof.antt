@@ -22,12 +22,6 @@ abbrev μ-loop : tie.MeasureT-loop
 loop-holds : tie.Need-loop-holds Inv-loop μ-loop
 loop-holds c = (omega arith, every-none _)
 
-mul-all-are : tie.Need-mul-all-are Inv-loop μ-loop
-mul-all-are c = omega arith
-
-all-are-requires : tie.Need-all-are-requires Inv-loop μ-loop
-all-are-requires c κs = omega arith
-
 -- the answer is that of row d
 row : (c : tie.After-all-are Inv-loop μ-loop) → let l = c .before .before in
     c .all-are .result ≡ every (l .loop .d) (λ e. eqb (getD (l .before .args .counts .now) (l .loop .d * 64 + e) 0) (l .before .args .lambda))
@@ -39,12 +33,6 @@ returns : tie.Need-returns Inv-loop μ-loop
 returns c =
     let a = c .before .before .before in
     sym (every-not _ _ (a .loop .d) (c .before .before .loop-test .taken) (sym (row (c .before)) ∙ not-true _ (c .if1 .taken)))
-
-add-d : tie.Need-add-d Inv-loop μ-loop
-add-d c = omega arith
-
-loop-less : tie.Need-loop-less Inv-loop μ-loop
-loop-less c = omega arith
 
 loop-again : tie.Need-loop-again Inv-loop μ-loop
 loop-again c =
@@ -61,10 +49,10 @@ pairs-even-spec =
     Inv-loop
     μ-loop
     loop-holds
-    mul-all-are
-    all-are-requires
+    (λ c. omega arith)
+    (λ c κs. omega arith)
     returns
-    add-d
-    loop-less
+    (λ c. omega arith)
+    (λ c. omega arith)
     loop-again
     returns-2)

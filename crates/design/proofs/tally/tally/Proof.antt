@@ -42,12 +42,6 @@ tally-tuple-requires c κs =
       ),
     )
 
-add-q : tie.Need-add-q Inv-loop μ-loop
-add-q c = omega arith
-
-loop-less : tie.Need-loop-less Inv-loop μ-loop
-loop-less c = omega arith
-
 loop-again : tie.Need-loop-again Inv-loop μ-loop
 loop-again c =
     let a = c .before .before .before in
@@ -71,7 +65,7 @@ tally-spec =
     loop-holds
     mul-tally-tuple
     tally-tuple-requires
-    add-q
-    loop-less
+    (λ c. omega arith)
+    (λ c. omega arith)
     loop-again
     returns)

@@ -28,17 +28,8 @@ below c = c .before .before .pre .1 .0 (c .before .loop .p) (c .loop-test .taken
 loop-holds : tie.Need-loop-holds Inv-loop μ-loop
 loop-holds c = (omega arith, c .pre .0 .2, row-none (tuple c) (c .args .d) (c .args .counts .now))
 
-add-e : tie.Need-add-e Inv-loop μ-loop
-add-e c = omega arith
-
-element-copy-out-e : tie.Need-element-copy-out-e Inv-loop μ-loop
-element-copy-out-e c = omega arith
-
 cast-e : tie.Need-cast-e Inv-loop μ-loop
 cast-e c = omega (arith, below (c .before))
-
-mul-counts : tie.Need-mul-counts Inv-loop μ-loop
-mul-counts c = omega arith
 
 add-counts : tie.Need-add-counts Inv-loop μ-loop
 add-counts c = omega (arith, below (c .before))
@@ -65,12 +56,6 @@ add-counts-2 c =
 element-write-counts : tie.Need-element-write-counts Inv-loop μ-loop
 element-write-counts c = omega (arith, below (c .before .before))
 
-add-p : tie.Need-add-p Inv-loop μ-loop
-add-p c = omega arith
-
-loop-less : tie.Need-loop-less Inv-loop μ-loop
-loop-less c = omega arith
-
 loop-again : tie.Need-loop-again Inv-loop μ-loop
 loop-again c =
     let a = c .before .before .before in
@@ -94,16 +79,16 @@ tally-disk-spec =
     Inv-loop
     μ-loop
     loop-holds
-    add-e
-    element-copy-out-e
+    (λ c. omega arith)
+    (λ c. omega arith)
     cast-e
-    mul-counts
+    (λ c. omega arith)
     add-counts
     mul-counts-2
     element-copy-out-counts
     add-counts-2
     element-write-counts
-    add-p
-    loop-less
+    (λ c. omega arith)
+    (λ c. omega arith)
     loop-again
     returns)

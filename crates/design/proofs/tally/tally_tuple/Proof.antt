@@ -35,12 +35,6 @@ room a d e hd he =
 loop-holds : tie.Need-loop-holds Inv-loop μ-loop
 loop-holds c = (omega arith, c .pre .0 .2, rows-none (tuple c) (c .args .k) (c .args .counts .now))
 
-add-d : tie.Need-add-d Inv-loop μ-loop
-add-d c = omega arith
-
-element-copy-out-d : tie.Need-element-copy-out-d Inv-loop μ-loop
-element-copy-out-d c = omega arith
-
 cast-d : tie.Need-cast-d Inv-loop μ-loop
 cast-d c = omega (arith, below (c .before))
 
@@ -50,12 +44,6 @@ tally-disk-requires c κs =
     let s = a .before in
     let h = below (c .before .before) in
     ((omega arith, h, a .loop .inv .1), (s .pre .1 .0, λ e l. room a (tuple s (a .loop .p)) e h l))
-
-add-p : tie.Need-add-p Inv-loop μ-loop
-add-p c = omega arith
-
-loop-less : tie.Need-loop-less Inv-loop μ-loop
-loop-less c = omega arith
 
 loop-again : tie.Need-loop-again Inv-loop μ-loop
 loop-again c =
@@ -80,11 +68,11 @@ tally-tuple-spec =
     Inv-loop
     μ-loop
     loop-holds
-    add-d
-    element-copy-out-d
+    (λ c. omega arith)
+    (λ c. omega arith)
     cast-d
     tally-disk-requires
-    add-p
-    loop-less
+    (λ c. omega arith)
+    (λ c. omega arith)
     loop-again
     returns)

@@ -12,24 +12,6 @@ use Rattle.host.proofs.losing.shqemtuli_lose.Tie as tie
 lost-is : (c : tie.After-lose) → c .lose .result ≡ lost (c .before .shelf .result) (c .before .before .before .before .args .disk)
 lost-is c = c .lose .ensures
 
-shelf-requires : tie.Need-shelf-requires
-shelf-requires c κs = search needs
-
-lose-requires : tie.Need-lose-requires
-lose-requires c κs = search needs
-
-enum-told : tie.Need-enum-told
-enum-told c = search needs
-
-enum-told-2 : tie.Need-enum-told-2
-enum-told-2 c = search needs
-
-of-verdict-requires : tie.Need-of-verdict-requires
-of-verdict-requires c κs = search needs
-
-same-length : tie.Need-same-length
-same-length c = search needs
-
 returns : tie.Need-returns
 returns c =
     let at-enum-told2 = c .before in
@@ -44,9 +26,6 @@ put-requires c κs =
     let start = at-shelf .before .before .before in
     value-length (start .args .shelf .now) (rw (← at-shelf .shelf .ensures) (losing-shelf _ _ (at-lose .lose .ensures) (at-enum-told .enum-told .given .1)))
 
-same-length-2 : tie.Need-same-length-2
-same-length-2 c = search needs
-
 returns-2 : tie.Need-returns-2
 returns-2 c =
     let at-put = c .before .before in
@@ -58,13 +37,13 @@ pub shqemtuli-lose-spec : {M : Type 1} → statement M
 shqemtuli-lose-spec =
     tie.close
     (tie.spec
-    shelf-requires
-    lose-requires
-    enum-told
-    enum-told-2
-    of-verdict-requires
-    same-length
+    (λ c κs. search needs)
+    (λ c κs. search needs)
+    (λ c. search needs)
+    (λ c. search needs)
+    (λ c κs. search needs)
+    (λ c. search needs)
     returns
     put-requires
-    same-length-2
+    (λ c. search needs)
     returns-2)

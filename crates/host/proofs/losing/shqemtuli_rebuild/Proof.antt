@@ -10,35 +10,11 @@ use Rattle.host.proofs.losing.shqemtuli_rebuild.Tie as tie
 returns : tie.Need-returns
 returns c = into-other (c .if1 .taken) refl (refl, refl, refl)
 
-shelf-requires : tie.Need-shelf-requires
-shelf-requires c κs = search needs
-
-rebuild-requires : tie.Need-rebuild-requires
-rebuild-requires c κs = search needs
-
 put-counts-requires : tie.Need-put-counts-requires
 put-counts-requires c κs =
     let at-rebuild = c .before .before .before .before .before in
     let passed = at-rebuild .before .before .before .before in
     (passed .if1 .left, rebuilt-counts (at-rebuild .rebuild .ensures))
-
-enum-told : tie.Need-enum-told
-enum-told c = search needs
-
-enum-told-2 : tie.Need-enum-told-2
-enum-told-2 c = search needs
-
-of-verdict-requires : tie.Need-of-verdict-requires
-of-verdict-requires c κs = search needs
-
-same-length : tie.Need-same-length
-same-length c = search needs
-
-same-length-2 : tie.Need-same-length-2
-same-length-2 c = search needs
-
-same-length-3 : tie.Need-same-length-3
-same-length-3 c = search needs
 
 returns-2 : tie.Need-returns-2
 returns-2 c =
@@ -58,15 +34,6 @@ put-requires c κs =
     let start = at-shelf .before .before .before .before .before .before in
     value-length (start .args .shelf .now) (rw (← at-shelf .shelf .ensures) (rebuilding-shelf (at-rebuild .rebuild .ensures) (at-enum-told .enum-told .given .1)))
 
-same-length-4 : tie.Need-same-length-4
-same-length-4 c = search needs
-
-same-length-5 : tie.Need-same-length-5
-same-length-5 c = search needs
-
-same-length-6 : tie.Need-same-length-6
-same-length-6 c = search needs
-
 returns-3 : tie.Need-returns-3
 returns-3 c =
     let at-put = c .before .before in
@@ -83,18 +50,18 @@ shqemtuli-rebuild-spec =
     tie.close
     (tie.spec
     returns
-    shelf-requires
-    rebuild-requires
+    (λ c κs. search needs)
+    (λ c κs. search needs)
     put-counts-requires
-    enum-told
-    enum-told-2
-    of-verdict-requires
-    same-length
-    same-length-2
-    same-length-3
+    (λ c. search needs)
+    (λ c. search needs)
+    (λ c κs. search needs)
+    (λ c. search needs)
+    (λ c. search needs)
+    (λ c. search needs)
     returns-2
     put-requires
-    same-length-4
-    same-length-5
-    same-length-6
+    (λ c. search needs)
+    (λ c. search needs)
+    (λ c. search needs)
     returns-3)

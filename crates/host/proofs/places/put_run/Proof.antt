@@ -27,15 +27,6 @@ add-spot c = omega (arith, bounds _ (c .before .before .before .before .pre .0) 
 spot-requires : tie.Need-spot-requires Inv-loop μ-loop
 spot-requires c κs = (c .before .before .before .before .pre .0, omega arith)
 
-put-spot-requires : tie.Need-put-spot-requires Inv-loop μ-loop
-put-spot-requires c κs = omega arith
-
-add-i : tie.Need-add-i Inv-loop μ-loop
-add-i c = omega arith
-
-loop-less : tie.Need-loop-less Inv-loop μ-loop
-loop-less c = omega arith
-
 loop-again : tie.Need-loop-again Inv-loop μ-loop
 loop-again c =
     let at-put-spot = c .before .before in
@@ -67,9 +58,9 @@ put-run-spec =
     loop-holds
     add-spot
     spot-requires
-    put-spot-requires
-    add-i
-    loop-less
+    (λ c κs. omega arith)
+    (λ c. omega arith)
+    (λ c. omega arith)
     loop-again
     same-length
     returns)

@@ -8,33 +8,6 @@ use Rattle.host.proofs.Numbering.{numbered-none, numbered-put}
 use Rattle.host.proofs.places.put_spot.Statement.{statement}
 use Rattle.host.proofs.places.put_spot.Tie as tie
 
-mul-at : tie.Need-mul-at
-mul-at c = search needs
-
-put-requires : tie.Need-put-requires
-put-requires c κs = search needs
-
-add-put : tie.Need-add-put
-add-put c = search needs
-
-put-requires-2 : tie.Need-put-requires-2
-put-requires-2 c κs = search needs
-
-add-put-2 : tie.Need-add-put-2
-add-put-2 c = search needs
-
-put-requires-3 : tie.Need-put-requires-3
-put-requires-3 c κs = search needs
-
-add-put-3 : tie.Need-add-put-3
-add-put-3 c = search needs
-
-put-requires-4 : tie.Need-put-requires-4
-put-requires-4 c κs = search needs
-
-same-length : tie.Need-same-length
-same-length c = search needs
-
 returns : tie.Need-returns
 unfolding spotNumbers
 returns c =
@@ -54,13 +27,13 @@ pub put-spot-spec : {M : Type 1} → statement M
 put-spot-spec =
     tie.close
     (tie.spec
-    mul-at
-    put-requires
-    add-put
-    put-requires-2
-    add-put-2
-    put-requires-3
-    add-put-3
-    put-requires-4
-    same-length
+    (λ c. search needs)
+    (λ c κs. search needs)
+    (λ c. search needs)
+    (λ c κs. search needs)
+    (λ c. search needs)
+    (λ c κs. search needs)
+    (λ c. search needs)
+    (λ c κs. search needs)
+    (λ c. search needs)
     returns)

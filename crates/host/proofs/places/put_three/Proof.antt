@@ -5,18 +5,6 @@ use Rattle.host.proofs.Numbering.{numbered-none, numbered-put}
 use Rattle.host.proofs.places.put_three.Statement.{statement}
 use Rattle.host.proofs.places.put_three.Tie as tie
 
-put-requires : tie.Need-put-requires
-put-requires c κs = search needs
-
-put-requires-2 : tie.Need-put-requires-2
-put-requires-2 c κs = search needs
-
-put-requires-3 : tie.Need-put-requires-3
-put-requires-3 c κs = search needs
-
-same-length : tie.Need-same-length
-same-length c = search needs
-
 returns : tie.Need-returns
 returns c =
     let at-put3 = c .before .before in
@@ -30,4 +18,4 @@ returns c =
 
 pub put-three-spec : {M : Type 1} → statement M
 put-three-spec =
-    tie.close (tie.spec put-requires put-requires-2 put-requires-3 same-length returns)
+    tie.close (tie.spec (λ c κs. search needs) (λ c κs. search needs) (λ c κs. search needs) (λ c. search needs) returns)

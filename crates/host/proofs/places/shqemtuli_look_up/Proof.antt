@@ -9,33 +9,6 @@ use Rattle.host.proofs.places.shqemtuli_look_up.Tie as tie
 returns : tie.Need-returns
 returns c = into-other (c .if1 .taken) refl refl
 
-shelf-requires : tie.Need-shelf-requires
-shelf-requires c κs = search needs
-
-look-up-requires : tie.Need-look-up-requires
-look-up-requires c κs = search needs
-
-enum-known-found : tie.Need-enum-known-found
-enum-known-found c = search needs
-
-put-three-requires : tie.Need-put-three-requires
-put-three-requires c κs = search needs
-
-enum-known-found-2 : tie.Need-enum-known-found-2
-enum-known-found-2 c = search needs
-
-put-three-requires-2 : tie.Need-put-three-requires-2
-put-three-requires-2 c κs = search needs
-
-enum-known-found-3 : tie.Need-enum-known-found-3
-enum-known-found-3 c = search needs
-
-number-requires : tie.Need-number-requires
-number-requires c κs = search needs
-
-same-length : tie.Need-same-length
-same-length c = search needs
-
 returns-2 : tie.Need-returns-2
 returns-2 c =
     let at-put-three = c .before .before in
@@ -44,9 +17,6 @@ returns-2 c =
     let at-shelf = at-look-up .before in
     let passed = at-shelf .before in
     rw (← at-shelf .shelf .ensures, ← at-look-up .look-up .ensures) (into-fits (passed .if1 .left) (found-data _ (at-found .found .given .1) (at-put-three .put-three .ensures)))
-
-same-length-2 : tie.Need-same-length-2
-same-length-2 c = search needs
 
 returns-3 : tie.Need-returns-3
 returns-3 c =
@@ -70,16 +40,16 @@ shqemtuli-look-up-spec =
     tie.close
     (tie.spec
     returns
-    shelf-requires
-    look-up-requires
-    enum-known-found
-    put-three-requires
-    enum-known-found-2
-    put-three-requires-2
-    enum-known-found-3
-    number-requires
-    same-length
+    (λ c κs. search needs)
+    (λ c κs. search needs)
+    (λ c. search needs)
+    (λ c κs. search needs)
+    (λ c. search needs)
+    (λ c κs. search needs)
+    (λ c. search needs)
+    (λ c κs. search needs)
+    (λ c. search needs)
     returns-2
-    same-length-2
+    (λ c. search needs)
     returns-3
     returns-4)

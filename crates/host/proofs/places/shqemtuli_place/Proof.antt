@@ -14,27 +14,6 @@ placed-is c = c .place .ensures
 returns : tie.Need-returns
 returns c = into-other (c .if1 .taken) refl refl
 
-shelf-requires : tie.Need-shelf-requires
-shelf-requires c κs = search needs
-
-place-requires : tie.Need-place-requires
-place-requires c κs = search needs
-
-enum-known-placing : tie.Need-enum-known-placing
-enum-known-placing c = search needs
-
-put-spot-requires : tie.Need-put-spot-requires
-put-spot-requires c κs = search needs
-
-enum-known-placing-2 : tie.Need-enum-known-placing-2
-enum-known-placing-2 c = search needs
-
-number-requires : tie.Need-number-requires
-number-requires c κs = search needs
-
-same-length : tie.Need-same-length
-same-length c = search needs
-
 returns-2 : tie.Need-returns-2
 returns-2 c =
     let at-put-spot = c .before .before in
@@ -57,12 +36,12 @@ shqemtuli-place-spec =
     tie.close
     (tie.spec
     returns
-    shelf-requires
-    place-requires
-    enum-known-placing
-    put-spot-requires
-    enum-known-placing-2
-    number-requires
-    same-length
+    (λ c κs. search needs)
+    (λ c κs. search needs)
+    (λ c. search needs)
+    (λ c κs. search needs)
+    (λ c. search needs)
+    (λ c κs. search needs)
+    (λ c. search needs)
     returns-2
     returns-3)

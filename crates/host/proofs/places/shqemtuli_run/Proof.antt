@@ -19,21 +19,6 @@ verdict-is c = c .run-verdict .ensures
 returns : tie.Need-returns
 returns c = record { fits = λ e. absurd (c .if1 .taken e); other = λ o. (refl, refl) }
 
-shelf-requires : tie.Need-shelf-requires
-shelf-requires c κs = search needs
-
-run-verdict-requires : tie.Need-run-verdict-requires
-run-verdict-requires c κs = search needs
-
-enum-told : tie.Need-enum-told
-enum-told c = search needs
-
-enum-told-2 : tie.Need-enum-told-2
-enum-told-2 c = search needs
-
-of-verdict-requires : tie.Need-of-verdict-requires
-of-verdict-requires c κs = search needs
-
 returns-2 : tie.Need-returns-2
 returns-2 c =
     let at-enum-told2 = c .before in
@@ -53,9 +38,6 @@ put-run-requires c κs =
     let w = accepted-runs _ _ _ (sym (at-run-verdict .run-verdict .ensures) ∙ at-enum-told .enum-told .given .1) in
     (w .shelf, passed .if1 .left, w .range)
 
-same-length : tie.Need-same-length
-same-length c = search needs
-
 returns-3 : tie.Need-returns-3
 returns-3 c =
     let at-put-run = c .before .before in
@@ -73,12 +55,12 @@ shqemtuli-run-spec =
     tie.close
     (tie.spec
     returns
-    shelf-requires
-    run-verdict-requires
-    enum-told
-    enum-told-2
-    of-verdict-requires
+    (λ c κs. search needs)
+    (λ c κs. search needs)
+    (λ c. search needs)
+    (λ c. search needs)
+    (λ c κs. search needs)
     returns-2
     put-run-requires
-    same-length
+    (λ c. search needs)
     returns-3)

@@ -8,30 +8,12 @@ use Rattle.host.proofs.sheet.shqemtuli_open.Tie as tie
 returns : tie.Need-returns
 returns c = into-other (c .if1 .taken) refl refl
 
-open-requires : tie.Need-open-requires
-open-requires c κs = search needs
-
-enum-told : tie.Need-enum-told
-enum-told c = search needs
-
-enum-told-2 : tie.Need-enum-told-2
-enum-told-2 c = search needs
-
-of-verdict-requires : tie.Need-of-verdict-requires
-of-verdict-requires c κs = search needs
-
 returns-2 : tie.Need-returns-2
 returns-2 c =
     let at-enum-told2 = c .before in
     let at-open = at-enum-told2 .before .before in
     let passed = at-open .before in
     rw (← at-open .«open» .ensures) (into-fits (passed .if1 .left) (given-refused _ _ (c .of-verdict .ensures) (at-enum-told2 .enum-told2 .given .1)))
-
-put-requires : tie.Need-put-requires
-put-requires c κs = search needs
-
-same-length : tie.Need-same-length
-same-length c = search needs
 
 returns-3 : tie.Need-returns-3
 returns-3 c =
@@ -46,11 +28,11 @@ shqemtuli-open-spec =
     tie.close
     (tie.spec
     returns
-    open-requires
-    enum-told
-    enum-told-2
-    of-verdict-requires
+    (λ c κs. search needs)
+    (λ c. search needs)
+    (λ c. search needs)
+    (λ c κs. search needs)
     returns-2
-    put-requires
-    same-length
+    (λ c κs. search needs)
+    (λ c. search needs)
     returns-3)

@@ -4,32 +4,11 @@ use Rattle.host.proofs.Answering.{told, back-length, back-refused}
 use Rattle.host.proofs.sheet.shqemtuli_write_back.Statement.{statement}
 use Rattle.host.proofs.sheet.shqemtuli_write_back.Tie as tie
 
-shelf-requires : tie.Need-shelf-requires
-shelf-requires c κs = search needs
-
-write-back-requires : tie.Need-write-back-requires
-write-back-requires c κs = search needs
-
-enum-told : tie.Need-enum-told
-enum-told c = search needs
-
-enum-known-written : tie.Need-enum-known-written
-enum-known-written c = search needs
-
-number-requires : tie.Need-number-requires
-number-requires c κs = search needs
-
-same-length : tie.Need-same-length
-same-length c = search needs
-
 returns : tie.Need-returns
 returns c =
     let at-write-back = c .before .before .before .before in
     let at-shelf = at-write-back .before .before in
     rw (← at-shelf .shelf .ensures) (told _ (at-write-back .write-back .ensures) (back-length (c .enum-told .given .1)))
-
-same-length-2 : tie.Need-same-length-2
-same-length-2 c = search needs
 
 returns-2 : tie.Need-returns-2
 returns-2 c =
@@ -42,12 +21,12 @@ pub shqemtuli-write-back-spec : {M : Type 1} → statement M
 shqemtuli-write-back-spec =
     tie.close
     (tie.spec
-    shelf-requires
-    write-back-requires
-    enum-told
-    enum-known-written
-    number-requires
-    same-length
+    (λ c κs. search needs)
+    (λ c κs. search needs)
+    (λ c. search needs)
+    (λ c. search needs)
+    (λ c κs. search needs)
+    (λ c. search needs)
     returns
-    same-length-2
+    (λ c. search needs)
     returns-2)

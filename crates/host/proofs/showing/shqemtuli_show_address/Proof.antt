@@ -5,12 +5,6 @@ use Rattle.host.proofs.Starts.{place-call, address-refused, address-cal
 use Rattle.host.proofs.showing.shqemtuli_show_address.Statement.{statement}
 use Rattle.host.proofs.showing.shqemtuli_show_address.Tie as tie
 
-shelf-requires : tie.Need-shelf-requires
-shelf-requires c κs = search needs
-
-show-address-requires : tie.Need-show-address-requires
-show-address-requires c κs = search needs
-
 returns : tie.Need-returns
 returns c =
     let at-show-address = c .before in
@@ -20,9 +14,6 @@ spot-requires : tie.Need-spot-requires
 spot-requires c κs =
     let w = address-call _ _ _ _ (c .before .show-address .ensures) (c .if1 .left) in
     (w .stored .shelf, w .address)
-
-show-place-requires : tie.Need-show-place-requires
-show-place-requires c κs = search needs
 
 returns-2 : tie.Need-returns-2
 returns-2 c =
@@ -51,11 +42,11 @@ pub shqemtuli-show-address-spec : {M : Type 1} → statement M
 shqemtuli-show-address-spec =
     tie.close
     (tie.spec
-    shelf-requires
-    show-address-requires
+    (λ c κs. search needs)
+    (λ c κs. search needs)
     returns
     spot-requires
-    show-place-requires
+    (λ c κs. search needs)
     returns-2
     start-requires
     returns-3)

@@ -5,12 +5,6 @@ use Rattle.host.proofs.Starts.{place-call, start-refused, start-at}
 use Rattle.host.proofs.showing.shqemtuli_show_place.Statement.{statement}
 use Rattle.host.proofs.showing.shqemtuli_show_place.Tie as tie
 
-shelf-requires : tie.Need-shelf-requires
-shelf-requires c κs = search needs
-
-show-place-requires : tie.Need-show-place-requires
-show-place-requires c κs = search needs
-
 returns : tie.Need-returns
 returns c =
     let at-show-place = c .before in
@@ -29,4 +23,4 @@ returns-2 c =
 
 pub shqemtuli-show-place-spec : {M : Type 1} → statement M
 shqemtuli-show-place-spec =
-    tie.close (tie.spec shelf-requires show-place-requires returns start-requires returns-2)
+    tie.close (tie.spec (λ c κs. search needs) (λ c κs. search needs) returns start-requires returns-2)

@@ -16,9 +16,6 @@ use Rattle.host.proofs.showing.start.Tie as tie
 here : (c : tie.After-offsets) → c .before .args .disk * c .offsets .result + c .before .args .offset < units (c .before .args .shelf)
 here c = rw (c .offsets .ensures) (digits-lt (c .before .pre .1) (c .before .pre .2))
 
-offsets-requires : tie.Need-offsets-requires
-offsets-requires c κs = search needs
-
 mul-result : tie.Need-mul-result
 mul-result c = omega (arith, here c, units-most _ (c .before .pre .0))
 
@@ -44,4 +41,4 @@ returns c =
 
 pub start-spec : {M : Type 1} → statement M
 start-spec =
-    tie.close (tie.spec offsets-requires mul-result add-result shl-result mul-result-2 returns)
+    tie.close (tie.spec (λ c κs. search needs) mul-result add-result shl-result mul-result-2 returns)

@@ -21,12 +21,6 @@ kept c = sym (c .before .is-shelf .ensures) ∙ not-false _ (c .if1 .left)
 places : (c : tie.Else1) → let h = c .before .before .shelf .result in h .b * h .k ≤ 2048
 places c = shelf-parts _ (kept c) .limits .places
 
-shelf-requires : tie.Need-shelf-requires
-shelf-requires c κs = search needs
-
-is-shelf-requires : tie.Need-is-shelf-requires
-is-shelf-requires c κs = search needs
-
 returns : tie.Need-returns
 returns c =
     let none = sym (c .before .is-shelf .ensures) ∙ not-true _ (c .if1 .taken) in
@@ -80,8 +74,8 @@ pub measure-spec : {M : Type 1} → statement M
 measure-spec =
     tie.close
     (tie.spec
-    shelf-requires
-    is-shelf-requires
+    (λ c κs. search needs)
+    (λ c κs. search needs)
     returns
     shl-unit
     offsets-requires

@@ -3,11 +3,8 @@ use borrow.Author.Needs.{needs}
 use Rattle.host.proofs.sizes.shqemtuli_image_size.Statement.{statement}
 use Rattle.host.proofs.sizes.shqemtuli_image_size.Tie as tie
 
-measure-requires : tie.Need-measure-requires
-measure-requires c κs = search needs
-
 returns : tie.Need-returns
 returns c = c .measure .ensures .1
 
 pub shqemtuli-image-size-spec : {M : Type 1} → statement M
-shqemtuli-image-size-spec = tie.close (tie.spec measure-requires returns)
+shqemtuli-image-size-spec = tie.close (tie.spec (λ c κs. search needs) returns)

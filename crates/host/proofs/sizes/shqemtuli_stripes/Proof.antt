@@ -3,11 +3,8 @@ use borrow.Author.Needs.{needs}
 use Rattle.host.proofs.sizes.shqemtuli_stripes.Statement.{statement}
 use Rattle.host.proofs.sizes.shqemtuli_stripes.Tie as tie
 
-measure-requires : tie.Need-measure-requires
-measure-requires c κs = search needs
-
 returns : tie.Need-returns
 returns c = c .measure .ensures .3
 
 pub shqemtuli-stripes-spec : {M : Type 1} → statement M
-shqemtuli-stripes-spec = tie.close (tie.spec measure-requires returns)
+shqemtuli-stripes-spec = tie.close (tie.spec (λ c κs. search needs) returns)

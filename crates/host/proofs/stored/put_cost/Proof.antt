@@ -5,18 +5,6 @@ use Rattle.host.proofs.Numbering.{numbered-none, numbered-put}
 use Rattle.host.proofs.stored.put_cost.Statement.{statement}
 use Rattle.host.proofs.stored.put_cost.Tie as tie
 
-put-requires : tie.Need-put-requires
-put-requires c κs = search needs
-
-put-requires-2 : tie.Need-put-requires-2
-put-requires-2 c κs = search needs
-
-of-verdict-requires : tie.Need-of-verdict-requires
-of-verdict-requires c κs = search needs
-
-same-length : tie.Need-same-length
-same-length c = search needs
-
 returns : tie.Need-returns
 returns c =
     let at-put2 = c .before .before .before in
@@ -28,4 +16,4 @@ returns c =
 
 pub put-cost-spec : {M : Type 1} → statement M
 put-cost-spec =
-    tie.close (tie.spec put-requires put-requires-2 of-verdict-requires same-length returns)
+    tie.close (tie.spec (λ c κs. search needs) (λ c κs. search needs) (λ c κs. search needs) (λ c. search needs) returns)

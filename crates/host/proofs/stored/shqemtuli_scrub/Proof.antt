@@ -10,20 +10,8 @@ use Rattle.host.proofs.stored.shqemtuli_scrub.Tie as tie
 returns : tie.Need-returns
 returns c = into-other (c .if1 .taken) refl refl
 
-shelf-requires : tie.Need-shelf-requires
-shelf-requires c κs = search needs
-
-scrub-requires : tie.Need-scrub-requires
-scrub-requires c κs = search needs
-
 put-requires : tie.Need-put-requires
 put-requires c κs = omega (arith, c .before .before .before .if1 .left)
-
-of-verdict-requires : tie.Need-of-verdict-requires
-of-verdict-requires c κs = search needs
-
-same-length : tie.Need-same-length
-same-length c = search needs
 
 returns-2 : tie.Need-returns-2
 returns-2 c =
@@ -41,9 +29,9 @@ shqemtuli-scrub-spec =
     tie.close
     (tie.spec
     returns
-    shelf-requires
-    scrub-requires
+    (λ c κs. search needs)
+    (λ c κs. search needs)
     put-requires
-    of-verdict-requires
-    same-length
+    (λ c κs. search needs)
+    (λ c. search needs)
     returns-2)

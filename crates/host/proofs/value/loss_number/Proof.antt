@@ -4,18 +4,6 @@ use Rattle.host.specs.Value.{lossNumber}
 use Rattle.host.proofs.value.loss_number.Statement.{statement}
 use Rattle.host.proofs.value.loss_number.Tie as tie
 
-enum-told : tie.Need-enum-told
-enum-told c = search needs
-
-enum-known-loss : tie.Need-enum-known-loss
-enum-known-loss c = search needs
-
-cast-result : tie.Need-cast-result
-cast-result c = search needs
-
-add-result : tie.Need-add-result
-add-result c = search needs
-
 returns : tie.Need-returns
 unfolding lossNumber
 returns c = rw (c .enum-told .given .1)
@@ -26,4 +14,4 @@ returns-2 c = rw (c .before .loss .given .1)
 
 pub loss-number-spec : {M : Type 1} → statement M
 loss-number-spec =
-    tie.close (tie.spec enum-told enum-known-loss cast-result add-result returns returns-2)
+    tie.close (tie.spec (λ c. search needs) (λ c. search needs) (λ c. search needs) (λ c. search needs) returns returns-2)

@@ -18,14 +18,8 @@ returns : tie.Need-returns
 unfolding lossOf
 returns c = rw (c .if1 .taken)
 
-sub-t3 : tie.Need-sub-t3
-sub-t3 c = search needs
-
-cast-t4 : tie.Need-cast-t4
-cast-t4 c = search needs
-
 returns-2 : tie.Need-returns-2
 returns-2 c = loss-disk _ (c .if1 .left)
 
 pub loss-of-spec : {M : Type 1} → statement M
-loss-of-spec = tie.close (tie.spec returns sub-t3 cast-t4 returns-2)
+loss-of-spec = tie.close (tie.spec returns (λ c. search needs) (λ c. search needs) returns-2)

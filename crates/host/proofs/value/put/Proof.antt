@@ -10,18 +10,12 @@ use Rattle.host.specs.Value.{withShelf}
 use Rattle.host.proofs.value.put.Statement.{statement}
 use Rattle.host.proofs.value.put.Tie as tie
 
-put-numbers-requires : tie.Need-put-numbers-requires
-put-numbers-requires c κs = search needs
-
 put-table-requires : tie.Need-put-table-requires
 put-table-requires c κs =
     let at-put-numbers = c .before .before .before .before .before in
     let start = at-put-numbers .before .before .before in
     let s = start in
     (omega (arith, at-put-numbers .put-numbers .kept), table-length (s .args .shelf) _ (s .good .1 .0))
-
-same-length : tie.Need-same-length
-same-length c = search needs
 
 returns : tie.Need-returns
 unfolding withShelf
@@ -33,4 +27,4 @@ returns c =
 
 pub put-spec : {M : Type 1} → statement M
 put-spec =
-    tie.close (tie.spec put-numbers-requires put-table-requires same-length returns)
+    tie.close (tie.spec (λ c κs. search needs) put-table-requires (λ c. search needs) returns)

@@ -7,47 +7,11 @@ use Rattle.host.proofs.Holding.{other-length, other-loss, held-shelf}
 use Rattle.host.proofs.value.shelf.Statement.{statement}
 use Rattle.host.proofs.value.shelf.Tie as tie
 
-empty-requires : tie.Need-empty-requires
-empty-requires c κs = search needs
-
 returns : tie.Need-returns
 returns c = c .empty .ensures ∙ other-length _ (c .before .if1 .taken)
 
-get-requires : tie.Need-get-requires
-get-requires c κs = search needs
-
-empty-requires-2 : tie.Need-empty-requires-2
-empty-requires-2 c κs = search needs
-
 returns-2 : tie.Need-returns-2
 returns-2 c = c .empty2 .ensures ∙ other-loss _ (omega (arith, c .before .before .get .ensures, c .before .if2 .taken))
-
-table-requires : tie.Need-table-requires
-table-requires c κs = search needs
-
-loss-of-requires : tie.Need-loss-of-requires
-loss-of-requires c κs = search needs
-
-get-requires-2 : tie.Need-get-requires-2
-get-requires-2 c κs = search needs
-
-get-requires-3 : tie.Need-get-requires-3
-get-requires-3 c κs = search needs
-
-get-requires-4 : tie.Need-get-requires-4
-get-requires-4 c κs = search needs
-
-get-requires-5 : tie.Need-get-requires-5
-get-requires-5 c κs = search needs
-
-get-requires-6 : tie.Need-get-requires-6
-get-requires-6 c κs = search needs
-
-get-requires-7 : tie.Need-get-requires-7
-get-requires-7 c κs = search needs
-
-get-requires-8 : tie.Need-get-requires-8
-get-requires-8 c κs = search needs
 
 returns-3 : tie.Need-returns-3
 returns-3 c =
@@ -72,18 +36,18 @@ pub shelf-spec : {M : Type 1} → statement M
 shelf-spec =
     tie.close
     (tie.spec
-    empty-requires
+    (λ c κs. search needs)
     returns
-    get-requires
-    empty-requires-2
+    (λ c κs. search needs)
+    (λ c κs. search needs)
     returns-2
-    table-requires
-    loss-of-requires
-    get-requires-2
-    get-requires-3
-    get-requires-4
-    get-requires-5
-    get-requires-6
-    get-requires-7
-    get-requires-8
+    (λ c κs. search needs)
+    (λ c κs. search needs)
+    (λ c κs. search needs)
+    (λ c κs. search needs)
+    (λ c κs. search needs)
+    (λ c κs. search needs)
+    (λ c κs. search needs)
+    (λ c κs. search needs)
+    (λ c κs. search needs)
     returns-3)

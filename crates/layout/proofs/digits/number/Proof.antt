@@ -27,9 +27,6 @@ digit-stored out at i rest ten here room =
     let more = decimal-more rest ten in
     rw more (put-last out at (decimal (rest / 10)) (digit (rest % 10)) (record { room = omega (arith, ap length more) }))
 
-places-requires : tie.Need-places-requires Inv-loop μ-loop
-places-requires c κs = search needs
-
 add-end : tie.Need-add-end Inv-loop μ-loop
 add-end c = omega (arith, c .before .before .pre .room, c .places .ensures)
 
@@ -39,19 +36,10 @@ loop-holds c = (omega (arith, c .places .ensures), omega (arith, c .before .befo
 sub-i : tie.Need-sub-i Inv-loop μ-loop
 sub-i c = omega (arith, c .before .loop .inv .0, decimal-next (c .before .loop .rest) (c .loop-test .taken))
 
-cast-out : tie.Need-cast-out Inv-loop μ-loop
-cast-out c = search needs
-
-add-out : tie.Need-add-out Inv-loop μ-loop
-add-out c = search needs
-
 slice-write-out : tie.Need-slice-write-out Inv-loop μ-loop
 slice-write-out c =
     let l = c .before .loop in
     omega (arith, l .inv .0, l .inv .1, decimal-next (l .rest) (c .loop-test .taken))
-
-loop-less : tie.Need-loop-less Inv-loop μ-loop
-loop-less c = search needs
 
 loop-again : tie.Need-loop-again Inv-loop μ-loop
 loop-again c =
@@ -71,12 +59,6 @@ loop-again c =
 -- one digit is left
 one-left : (c : tie.After-loop Inv-loop μ-loop) → length (decimal (c .before .loop .rest)) ≡ 1
 one-left c = ap length (decimal-one (c .before .loop .rest) (omega (arith, c .loop-test .left)))
-
-cast-out-2 : tie.Need-cast-out-2 Inv-loop μ-loop
-cast-out-2 c = search needs
-
-add-out-2 : tie.Need-add-out-2 Inv-loop μ-loop
-add-out-2 c = search needs
 
 slice-write-out-2 : tie.Need-slice-write-out-2 Inv-loop μ-loop
 slice-write-out-2 c =
@@ -106,17 +88,17 @@ number-spec =
     (tie.spec
     Inv-loop
     μ-loop
-    places-requires
+    (λ c κs. search needs)
     add-end
     loop-holds
     sub-i
-    cast-out
-    add-out
+    (λ c. search needs)
+    (λ c. search needs)
     slice-write-out
-    loop-less
+    (λ c. search needs)
     loop-again
-    cast-out-2
-    add-out-2
+    (λ c. search needs)
+    (λ c. search needs)
     slice-write-out-2
     same-length
     returns)

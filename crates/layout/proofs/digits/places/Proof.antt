@@ -15,16 +15,10 @@ Inv-loop n count₀ rest₀ count rest = count + length (decimal rest) ≡ lengt
 abbrev μ-loop : tie.MeasureT-loop
 μ-loop n count₀ rest₀ count rest = rest
 
-loop-holds : tie.Need-loop-holds Inv-loop μ-loop
-loop-holds c = omega arith
-
 add-count : tie.Need-add-count Inv-loop μ-loop
 add-count c =
     let a = c .before .before .args in
     omega (arith, c .before .loop .inv, digits-most 19 (a .n) (omega arith))
-
-loop-less : tie.Need-loop-less Inv-loop μ-loop
-loop-less c = omega arith
 
 loop-again : tie.Need-loop-again Inv-loop μ-loop
 loop-again c = omega (arith, c .before .loop .inv, decimal-next (c .before .loop .rest) (c .loop-test .taken))
@@ -34,4 +28,4 @@ returns c = omega (arith, c .before .loop .inv, ap length (decimal-one (c .befor
 
 pub places-spec : {M : Type 1} → statement M
 places-spec =
-    tie.close (tie.spec Inv-loop μ-loop loop-holds add-count loop-less loop-again returns)
+    tie.close (tie.spec Inv-loop μ-loop (λ c. omega arith) add-count (λ c. omega arith) loop-again returns)

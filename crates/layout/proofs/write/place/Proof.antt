@@ -44,12 +44,6 @@ written c =
 
 -- ---- the needs
 
-element-copy-out-wide : tie.Need-element-copy-out-wide
-element-copy-out-wide c = search needs
-
-wide-requires : tie.Need-wide-requires
-wide-requires c κs = search needs
-
 spaced-number-requires : tie.Need-spaced-number-requires
 spaced-number-requires c κs =
     let s = c .before .before .before .before in
@@ -65,15 +59,6 @@ add-number : tie.Need-add-number
 add-number c =
     let w = c .before .before .before in
     omega (arith, w .spaced-number .ensures .moves, disk-room w)
-
-mul-wider : tie.Need-mul-wider
-mul-wider c = search needs
-
-element-copy-out-wider : tie.Need-element-copy-out-wider
-element-copy-out-wider c = search needs
-
-wider-requires : tie.Need-wider-requires
-wider-requires c κs = search needs
 
 add-number-2 : tie.Need-add-number-2
 add-number-2 c =
@@ -100,14 +85,14 @@ pub place-spec : {M : Type 1} → statement M
 place-spec =
     tie.close
     (tie.spec
-    element-copy-out-wide
-    wide-requires
+    (λ c. search needs)
+    (λ c κs. search needs)
     spaced-number-requires
     slice-write-out
     add-number
-    mul-wider
-    element-copy-out-wider
-    wider-requires
+    (λ c. search needs)
+    (λ c. search needs)
+    (λ c κs. search needs)
     add-number-2
     number-requires
     same-length

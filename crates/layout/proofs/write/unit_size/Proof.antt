@@ -7,11 +7,8 @@ use lib.Pow.{shl-exact}
 use Rattle.layout.proofs.write.unit_size.Statement.{statement}
 use Rattle.layout.proofs.write.unit_size.Tie as tie
 
-shl-result : tie.Need-shl-result
-shl-result c = search needs
-
 returns : tie.Need-returns
 returns c = shl-exact {a = 1} 1 (c .args .u) 64 (omega arith) (omega arith) ∙ one-mul _
 
 pub unit-size-spec : {M : Type 1} → statement M
-unit-size-spec = tie.close (tie.spec shl-result returns)
+unit-size-spec = tie.close (tie.spec (λ c. search needs) returns)

@@ -19,15 +19,6 @@ abbrev μ-loop : tie.MeasureT-loop
 loop-holds : tie.Need-loop-holds Inv-loop μ-loop
 loop-holds c = begun-none _ _ _ _ (length-replicate _ _) (omega arith)
 
-slice-write-bytes : tie.Need-slice-write-bytes Inv-loop μ-loop
-slice-write-bytes c = omega arith
-
-add-i : tie.Need-add-i Inv-loop μ-loop
-add-i c = omega arith
-
-loop-less : tie.Need-loop-less Inv-loop μ-loop
-loop-less c = omega arith
-
 loop-again : tie.Need-loop-again Inv-loop μ-loop
 loop-again c =
     begun-next _ _ _ _ _ _ (c .before .loop .inv) _ _ (c .loop-test .taken) (sym (zero-add _)) (sym (getD-replicate _ _ _ _ (c .loop-test .taken)))
@@ -45,9 +36,9 @@ clear-spec =
     Inv-loop
     μ-loop
     loop-holds
-    slice-write-bytes
-    add-i
-    loop-less
+    (λ c. omega arith)
+    (λ c. omega arith)
+    (λ c. omega arith)
     loop-again
     same-length
     returns)

@@ -80,9 +80,6 @@ slice-aggregate-is-zero c =
     let at = got .before .before .before .before .before in
     sym (ap length (front-is _ (at .loop .sum) (got .gather .last .0) (room at) (gathered got)) ∙ gathered got)
 
-is-zero-requires : tie.Need-is-zero-requires Inv-loop μ-loop
-is-zero-requires c κs = search needs
-
 add-wrong : tie.Need-add-wrong Inv-loop μ-loop
 add-wrong c =
     let turn = c .before .before .before .before .before .before .before .before in
@@ -127,7 +124,7 @@ count-wrong-spec =
     gather-requires
     array-share-prefix-sum
     slice-aggregate-is-zero
-    is-zero-requires
+    (λ c κs. search needs)
     add-wrong
     add-s
     loop-less

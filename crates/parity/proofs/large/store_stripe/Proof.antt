@@ -55,9 +55,6 @@ number-requires c κs = let t = task (c .before .before .before .before .before)
 div-is-present : tie.Need-div-is-present Inv-loop μ-loop
 div-is-present c = shape-deep (task (c .before .before .before .before .before .before .before) .ready)
 
-is-present-requires : tie.Need-is-present-requires Inv-loop μ-loop
-is-present-requires c κs = search needs
-
 -- data i lies within the buffer
 inside : (c : tie.In-loop Inv-loop μ-loop) → let U = c .before .before .before .shape-of .result .size in
     c .before .loop .i * U + U ≤ length (start (c .before .before .before) .args .buffer .now)
@@ -68,12 +65,6 @@ mul-at c = let turn = c .before .before .before .before .before .before in omega
 
 add-store : tie.Need-add-store Inv-loop μ-loop
 add-store c = let turn = c .before .before .before .before .before .before .before in omega (arith, inside turn, task-short (task (turn .before .before .before)))
-
-sub-store : tie.Need-sub-store Inv-loop μ-loop
-sub-store c = omega arith
-
-part-store-start : tie.Need-part-store-start Inv-loop μ-loop
-part-store-start c = omega arith
 
 part-store-end : tie.Need-part-store-end Inv-loop μ-loop
 part-store-end c = omega (arith, inside (c .before .before .before .before .before .before .before))
@@ -92,12 +83,6 @@ add-written : tie.Need-add-written Inv-loop μ-loop
 add-written c =
     let at = c .before .before .before .before .before .before .before .before .before .before .before .before in
     omega (arith, begun-few (at .loop .inv .1))
-
-add-i : tie.Need-add-i Inv-loop μ-loop
-add-i c = omega arith
-
-loop-less : tie.Need-loop-less Inv-loop μ-loop
-loop-less c = omega arith
 
 loop-again : tie.Need-loop-again Inv-loop μ-loop
 loop-again c =
@@ -131,9 +116,6 @@ number-requires-2 c κs = let t = task (c .before .before .before .before .befor
 
 div-is-present-2 : tie.Need-div-is-present-2 Inv-loop μ-loop
 div-is-present-2 c = shape-deep (task (c .before .before .before .before .before .before .before .before) .ready)
-
-is-present-requires-2 : tie.Need-is-present-requires-2 Inv-loop μ-loop
-is-present-requires-2 c κs = search needs
 
 seal-requires : tie.Need-seal-requires Inv-loop μ-loop
 seal-requires c κs =
@@ -198,21 +180,21 @@ store-stripe-spec =
     loop-holds
     number-requires
     div-is-present
-    is-present-requires
+    (λ c κs. search needs)
     mul-at
     add-store
-    sub-store
-    part-store-start
+    (λ c. omega arith)
+    (λ c. omega arith)
     part-store-end
     store-requires
     add-written
-    add-i
-    loop-less
+    (λ c. omega arith)
+    (λ c. omega arith)
     loop-again
     sub-last
     number-requires-2
     div-is-present-2
-    is-present-requires-2
+    (λ c κs. search needs)
     seal-requires
     add-written-2
     same-length

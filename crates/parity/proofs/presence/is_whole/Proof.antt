@@ -5,12 +5,6 @@ use Rattle.parity.specs.Calls.{isWhole}
 use Rattle.parity.proofs.presence.is_whole.Statement.{statement}
 use Rattle.parity.proofs.presence.is_whole.Tie as tie
 
-enum-told : tie.Need-enum-told
-enum-told c = search needs
-
-enum-told-2 : tie.Need-enum-told-2
-enum-told-2 c = search needs
-
 returns : tie.Need-returns
 returns c = sym (ap isWhole (c .enum-told .given .1))
 
@@ -18,4 +12,4 @@ returns-2 : tie.Need-returns-2
 returns-2 c = sym (ap isWhole (c .enum-told2 .given .1))
 
 pub is-whole-spec : {M : Type 1} → statement M
-is-whole-spec = tie.close (tie.spec enum-told enum-told-2 returns returns-2)
+is-whole-spec = tie.close (tie.spec (λ c. search needs) (λ c. search needs) returns returns-2)

@@ -15,12 +15,6 @@ Inv-loop counts₀ lost v each e₀ counts e = (e ≤ v) × Filled each lost e c
 abbrev μ-loop : tie.MeasureT-loop
 μ-loop counts₀ lost v each e₀ counts e = v - e
 
-enum-known-loss : tie.Need-enum-known-loss Inv-loop μ-loop
-enum-known-loss c = search needs
-
-enum-told : tie.Need-enum-told Inv-loop μ-loop
-enum-told c = search needs
-
 returns : tie.Need-returns Inv-loop μ-loop
 returns c = none-read (c .before .before .args .shelf) (c .before .before .pre) (c .enum-told .given .1)
 
@@ -33,9 +27,6 @@ mul-each-2 c = omega (arith, each-most _ (c .before .before .before .before .bef
 loop-holds : tie.Need-loop-holds Inv-loop μ-loop
 loop-holds c = (omega arith, filled-none _ _)
 
-cast-if1 : tie.Need-cast-if1 Inv-loop μ-loop
-cast-if1 c = search needs
-
 mul-counts : tie.Need-mul-counts Inv-loop μ-loop
 mul-counts c =
     let start = c .before .before .before .before .before .before .before .before in
@@ -45,12 +36,6 @@ array-write-counts : tie.Need-array-write-counts Inv-loop μ-loop
 array-write-counts c =
     let start = c .before .before .before .before .before .before .before .before in
     omega (arith, shelf-parts _ (start .pre) .limits .v-most)
-
-add-e : tie.Need-add-e Inv-loop μ-loop
-add-e c = omega arith
-
-loop-less : tie.Need-loop-less Inv-loop μ-loop
-loop-less c = omega arith
 
 loop-again : tie.Need-loop-again Inv-loop μ-loop
 loop-again c =
@@ -75,16 +60,16 @@ counts-spec =
     (tie.spec
     Inv-loop
     μ-loop
-    enum-known-loss
-    enum-told
+    (λ c. search needs)
+    (λ c. search needs)
     returns
     mul-each
     mul-each-2
     loop-holds
-    cast-if1
+    (λ c. search needs)
     mul-counts
     array-write-counts
-    add-e
-    loop-less
+    (λ c. omega arith)
+    (λ c. omega arith)
     loop-again
     returns-2)

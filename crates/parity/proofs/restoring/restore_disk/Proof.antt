@@ -40,12 +40,6 @@ prepared c = record {
   shape-is = c .shape-of .ensures;
 }
 
-enum-known-loss : tie.Need-enum-known-loss Inv-loop μ-loop
-enum-known-loss c = search needs
-
-enum-told : tie.Need-enum-told Inv-loop μ-loop
-enum-told c = search needs
-
 returns : tie.Need-returns Inv-loop μ-loop
 returns c = let s = c .before .before .before in none-restored (s .args .shelf) (s .pre .shelf) _ (s .pre .size) (c .enum-told .given .1)
 
@@ -95,9 +89,6 @@ mul-entry c = omega (arith, listed-lt c)
 array-read-entry : tie.Need-array-read-entry Inv-loop μ-loop
 array-read-entry c = listed-lt c
 
-cast-entry : tie.Need-cast-entry Inv-loop μ-loop
-cast-entry c = search needs
-
 div-row : tie.Need-div-row Inv-loop μ-loop
 div-row c = even c .r-pos
 
@@ -140,12 +131,6 @@ restore-requires c κs =
       index-lt (shelf turn) P o (turn .loop-test .taken) (i .index-of .ensures),
     )
 
-add-o : tie.Need-add-o Inv-loop μ-loop
-add-o c = omega arith
-
-loop-less : tie.Need-loop-less Inv-loop μ-loop
-loop-less c = omega arith
-
 loop-again : tie.Need-loop-again Inv-loop μ-loop
 loop-again c =
     let i = c .before .before .before .before .before .before in
@@ -174,8 +159,8 @@ restore-disk-spec =
     (tie.spec
     Inv-loop
     μ-loop
-    enum-known-loss
-    enum-told
+    (λ c. search needs)
+    (λ c. search needs)
     returns
     ranks-of-requires
     mul-entries
@@ -185,7 +170,7 @@ restore-disk-spec =
     rem-entry
     mul-entry
     array-read-entry
-    cast-entry
+    (λ c. search needs)
     div-row
     mul-s
     div-s
@@ -196,8 +181,8 @@ restore-disk-spec =
     rem-index-of-2
     index-of-requires
     restore-requires
-    add-o
-    loop-less
+    (λ c. omega arith)
+    (λ c. omega arith)
     loop-again
     same-length
     returns-2)

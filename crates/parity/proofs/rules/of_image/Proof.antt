@@ -8,9 +8,6 @@ use Rattle.parity.proofs.Verdicts.{none-broken, broken-here, past, is-s
 use Rattle.parity.proofs.rules.of_image.Statement.{statement}
 use Rattle.parity.proofs.rules.of_image.Tie as tie
 
-is-shelf-requires : tie.Need-is-shelf-requires
-is-shelf-requires c κs = search needs
-
 returns : tie.Need-returns
 returns c = broken-here _ _ (sym (c .before .is-shelf .ensures) ∙ not-true _ (c .if1 .taken))
 
@@ -27,4 +24,4 @@ returns-3 : tie.Need-returns-3
 returns-3 c = past _ _ (shelf-kept (c .before .before)) (past _ _ (is-same _ (c .before .image-size .ensures) (c .if2 .left)) none-broken)
 
 pub of-image-spec : {M : Type 1} → statement M
-of-image-spec = tie.close (tie.spec is-shelf-requires returns image-size-requires returns-2 returns-3)
+of-image-spec = tie.close (tie.spec (λ c κs. search needs) returns image-size-requires returns-2 returns-3)

@@ -9,9 +9,6 @@ use Rattle.parity.proofs.Verdicts.{none-broken, broken-here, past}
 use Rattle.parity.proofs.rules.of_lose.Statement.{statement}
 use Rattle.parity.proofs.rules.of_lose.Tie as tie
 
-is-shelf-requires : tie.Need-is-shelf-requires
-is-shelf-requires c κs = search needs
-
 returns : tie.Need-returns
 unfolding loseRules
 returns c = broken-here _ _ (sym (c .before .is-shelf .ensures) ∙ not-true _ (c .if1 .taken))
@@ -22,9 +19,6 @@ shelf-kept c = sym (c .before .is-shelf .ensures) ∙ not-false _ (c .if1 .left)
 returns-2 : tie.Need-returns-2
 unfolding loseRules
 returns-2 c = past _ _ (shelf-kept (c .before .before)) (broken-here _ _ (le-ltb _ _ (c .if2 .taken)))
-
-is-whole-requires : tie.Need-is-whole-requires
-is-whole-requires c κs = search needs
 
 returns-3 : tie.Need-returns-3
 unfolding loseRules
@@ -41,4 +35,4 @@ returns-4 c =
 pub of-lose-spec : {M : Type 1} → statement M
 of-lose-spec =
     tie.close
-    (tie.spec is-shelf-requires returns returns-2 is-whole-requires returns-3 returns-4)
+    (tie.spec (λ c κs. search needs) returns returns-2 (λ c κs. search needs) returns-3 returns-4)

@@ -16,15 +16,6 @@ use Rattle.parity.proofs.Verdicts.{none-broken, broken-here, past, past
 use Rattle.parity.proofs.rules.of_place.Statement.{statement}
 use Rattle.parity.proofs.rules.of_place.Tie as tie
 
-of-image-requires : tie.Need-of-image-requires
-of-image-requires c κs = search needs
-
-enum-told : tie.Need-enum-told
-enum-told c = search needs
-
-enum-told-2 : tie.Need-enum-told-2
-enum-told-2 c = search needs
-
 returns : tie.Need-returns
 unfolding placeRules
 returns c =
@@ -48,9 +39,6 @@ returns-3 c =
     let d = c .before .before in
     past-all _ (imageRules _ _) (image-kept (d .before .before))
     (broken-here _ _ (rw (lt-ltb _ _ (d .if1 .left), not-below _ (c .before .offsets .ensures) (c .if2 .taken))))
-
-is-present-requires : tie.Need-is-present-requires
-is-present-requires c κs = search needs
 
 -- the place is in range
 ranged : (c : tie.Else2) → let args = c .before .before .before .before .before .before .before .args in
@@ -81,4 +69,4 @@ returns-5 c =
 pub of-place-spec : {M : Type 1} → statement M
 of-place-spec =
     tie.close
-    (tie.spec of-image-requires enum-told enum-told-2 returns returns-2 offsets-requires returns-3 is-present-requires returns-4 returns-5)
+    (tie.spec (λ c κs. search needs) (λ c. search needs) (λ c. search needs) returns returns-2 offsets-requires returns-3 (λ c κs. search needs) returns-4 returns-5)

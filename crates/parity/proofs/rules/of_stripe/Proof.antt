@@ -16,15 +16,6 @@ use Rattle.parity.proofs.Verdicts.{past-all, broken-within}
 use Rattle.parity.proofs.rules.of_stripe.Statement.{statement}
 use Rattle.parity.proofs.rules.of_stripe.Tie as tie
 
-of-image-requires : tie.Need-of-image-requires
-of-image-requires c κs = search needs
-
-enum-told : tie.Need-enum-told
-enum-told c = search needs
-
-enum-told-2 : tie.Need-enum-told-2
-enum-told-2 c = search needs
-
 returns : tie.Need-returns
 unfolding stripeRules
 returns c =
@@ -50,9 +41,6 @@ unit-size-requires c κs = shelf-kept (c .before .before)
 mul-of-span : tie.Need-mul-of-span
 mul-of-span c = rw (c .unit-size .ensures) (omega (arith, stripe-size-most _ (shelf-kept (c .before .before .before))))
 
-of-span-requires : tie.Need-of-span-requires
-of-span-requires c κs = search needs
-
 -- the buffer is to have the k - 1 data units
 returns-2 : tie.Need-returns-2
 unfolding stripeRules
@@ -66,4 +54,4 @@ returns-2 c =
 pub of-stripe-spec : {M : Type 1} → statement M
 of-stripe-spec =
     tie.close
-    (tie.spec of-image-requires enum-told enum-told-2 returns stripes-requires sub-of-span unit-size-requires mul-of-span of-span-requires returns-2)
+    (tie.spec (λ c κs. search needs) (λ c. search needs) (λ c. search needs) returns stripes-requires sub-of-span unit-size-requires mul-of-span (λ c κs. search needs) returns-2)

@@ -14,15 +14,6 @@ use Rattle.parity.proofs.Verdicts.{past-all, broken-within}
 use Rattle.parity.proofs.rules.of_unit.Statement.{statement}
 use Rattle.parity.proofs.rules.of_unit.Tie as tie
 
-of-image-requires : tie.Need-of-image-requires
-of-image-requires c κs = search needs
-
-enum-told : tie.Need-enum-told
-enum-told c = search needs
-
-enum-told-2 : tie.Need-enum-told-2
-enum-told-2 c = search needs
-
 returns : tie.Need-returns
 unfolding unitRules
 returns c =
@@ -42,9 +33,6 @@ addresses-requires c κs = shelf-kept c
 unit-size-requires : tie.Need-unit-size-requires
 unit-size-requires c κs = shelf-kept (c .before)
 
-of-span-requires : tie.Need-of-span-requires
-of-span-requires c κs = search needs
-
 -- the buffer is to have one unit
 returns-2 : tie.Need-returns-2
 unfolding unitRules
@@ -58,4 +46,4 @@ returns-2 c =
 pub of-unit-spec : {M : Type 1} → statement M
 of-unit-spec =
     tie.close
-    (tie.spec of-image-requires enum-told enum-told-2 returns addresses-requires unit-size-requires of-span-requires returns-2)
+    (tie.spec (λ c κs. search needs) (λ c. search needs) (λ c. search needs) returns addresses-requires unit-size-requires (λ c κs. search needs) returns-2)

@@ -10,15 +10,6 @@ use Rattle.parity.proofs.Verdicts.{none-broken, broken-here, past, past
 use Rattle.parity.proofs.rules.of_whole.Statement.{statement}
 use Rattle.parity.proofs.rules.of_whole.Tie as tie
 
-of-image-requires : tie.Need-of-image-requires
-of-image-requires c κs = search needs
-
-enum-told : tie.Need-enum-told
-enum-told c = search needs
-
-enum-told-2 : tie.Need-enum-told-2
-enum-told-2 c = search needs
-
 returns : tie.Need-returns
 unfolding wholeRules
 returns c =
@@ -28,9 +19,6 @@ returns c =
 -- rules 10 and 11 are kept
 image-kept : (c : tie.After-enum-told) → firstBroken (imageRules (c .before .before .before .args .shelf) (c .before .before .before .args .n)) ≡ Accepted
 image-kept c = sym (c .before .before .of-image .ensures) ∙ c .enum-told .given .1
-
-is-whole-requires : tie.Need-is-whole-requires
-is-whole-requires c κs = search needs
 
 returns-2 : tie.Need-returns-2
 unfolding wholeRules
@@ -43,4 +31,4 @@ returns-3 c = past-all _ (imageRules _ _) (image-kept (c .before .before)) (past
 pub of-whole-spec : {M : Type 1} → statement M
 of-whole-spec =
     tie.close
-    (tie.spec of-image-requires enum-told enum-told-2 returns is-whole-requires returns-2 returns-3)
+    (tie.spec (λ c κs. search needs) (λ c. search needs) (λ c. search needs) returns (λ c κs. search needs) returns-2 returns-3)

@@ -44,12 +44,6 @@ mul-at-2 c = omega (arith, fits c, most c)
 add-result : tie.Need-add-result
 add-result c = omega (arith, fits c, most c)
 
-sub-result : tie.Need-sub-result
-sub-result c = search needs
-
-part-result-start : tie.Need-part-result-start
-part-result-start c = search needs
-
 part-result-end : tie.Need-part-result-end
 part-result-end c = omega (arith, fits c)
 
@@ -69,7 +63,7 @@ part-spec =
     add-at
     mul-at-2
     add-result
-    sub-result
-    part-result-start
+    (λ c. search needs)
+    (λ c. search needs)
     part-result-end
     returns)

@@ -12,9 +12,6 @@ use Rattle.parity.proofs.showing.shown.Tie as tie
 spot-requires : tie.Need-spot-requires
 spot-requires c κs = let s = c .before .before in (s .pre .stored .shelf, s .pre .address)
 
-is-present-requires : tie.Need-is-present-requires
-is-present-requires c κs = search needs
-
 part-requires : tie.Need-part-requires
 part-requires c κs =
     let s = c .before .before .before .before in
@@ -37,4 +34,4 @@ returns-2 c =
     rw (sym (spot-present _ (s .pre .stored .shelf) _ (s .pre .address)) ∙ ap (λ (x : Spot). presentOn (s .args .shelf .loss) (x .disk)) (sym (c .before .before .spot .ensures)) ∙ sym (c .before .is-present .ensures) ∙ c .if1 .left)
 
 pub shown-spec : {M : Type 1} → statement M
-shown-spec = tie.close (tie.spec spot-requires is-present-requires part-requires returns returns-2)
+shown-spec = tie.close (tie.spec spot-requires (λ c κs. search needs) part-requires returns returns-2)

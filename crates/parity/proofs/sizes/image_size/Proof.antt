@@ -8,18 +8,12 @@ use Rattle.parity.proofs.sizes.image_size.Tie as tie
 returns : tie.Need-returns
 returns c = rw (c .before .before .offsets .ensures, c .unit-size .ensures)
 
-offsets-requires : tie.Need-offsets-requires
-offsets-requires c κs = search needs
-
 mul-result : tie.Need-mul-result
 mul-result c = rw (c .before .offsets .ensures) (omega (arith, units-most _ (c .before .before .pre)))
-
-unit-size-requires : tie.Need-unit-size-requires
-unit-size-requires c κs = search needs
 
 mul-result-2 : tie.Need-mul-result-2
 mul-result-2 c = rw (c .before .before .offsets .ensures, c .unit-size .ensures) (omega (arith, image-size-most _ (c .before .before .before .pre)))
 
 pub image-size-spec : {M : Type 1} → statement M
 image-size-spec =
-    tie.close (tie.spec offsets-requires mul-result unit-size-requires mul-result-2 returns)
+    tie.close (tie.spec (λ c κs. search needs) mul-result (λ c κs. search needs) mul-result-2 returns)

@@ -3,14 +3,8 @@ use borrow.Author.Needs.{needs}
 use Rattle.parity.proofs.sizes.shape_of.Statement.{statement}
 use Rattle.parity.proofs.sizes.shape_of.Tie as tie
 
-offsets-requires : tie.Need-offsets-requires
-offsets-requires c κs = search needs
-
-unit-size-requires : tie.Need-unit-size-requires
-unit-size-requires c κs = search needs
-
 returns : tie.Need-returns
 returns c = rw (c .before .offsets .ensures, c .unit-size .ensures)
 
 pub shape-of-spec : {M : Type 1} → statement M
-shape-of-spec = tie.close (tie.spec offsets-requires unit-size-requires returns)
+shape-of-spec = tie.close (tie.spec (λ c κs. search needs) (λ c κs. search needs) returns)

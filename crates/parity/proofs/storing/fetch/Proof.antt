@@ -42,17 +42,11 @@ offsets-requires c κs = start c .pre .stored .shelf
 div-is-present : tie.Need-div-is-present
 div-is-present c = rw (c .before .offsets .ensures) (depth-pos _ (start (c .before .before) .pre .stored .shelf))
 
-is-present-requires : tie.Need-is-present-requires
-is-present-requires c κs = search needs
-
 load-requires : tie.Need-load-requires
 load-requires c κs =
     let n = c .before .before .before .before .before in
     let w = start n .pre in
     number-fits w _ (data-lt w) (unit-is n)
-
-same-length : tie.Need-same-length
-same-length c = search needs
 
 returns : tie.Need-returns
 returns c =
@@ -66,9 +60,6 @@ fetch-lost-requires c κs = let s = start (c .before .before .before .before .be
 sub-result : tie.Need-sub-result
 sub-result c = omega (arith, call-data-lt (start (c .before .before .before .before .before .before .before .before .before) .pre))
 
-same-length-2 : tie.Need-same-length-2
-same-length-2 c = search needs
-
 returns-2 : tie.Need-returns-2
 returns-2 c =
     let there = c .before .before .before .before .before .before in
@@ -81,11 +72,11 @@ fetch-spec =
     numbers-of-requires
     offsets-requires
     div-is-present
-    is-present-requires
+    (λ c κs. search needs)
     load-requires
-    same-length
+    (λ c. search needs)
     returns
     fetch-lost-requires
     sub-result
-    same-length-2
+    (λ c. search needs)
     returns-2)

@@ -11,12 +11,6 @@ use Rattle.parity.proofs.storing.renew.Tie as tie
 mix-both-requires : tie.Need-mix-both-requires
 mix-both-requires c κs = let start = c .before .before .before in (start .pre .1, start .pre .0)
 
-store-requires : tie.Need-store-requires
-store-requires c κs = search needs
-
-same-length : tie.Need-same-length
-same-length c = search needs
-
 returns : tie.Need-returns
 returns c =
     let mixed = c .before .before .before .before .before .before in
@@ -25,4 +19,4 @@ returns c =
     ∙ ap (λ (l : List ℕ). putUnit (length (start .args .unit .now)) l (start .args .n) (start .args .unit .now)) (mixed .mix-both .ensures)
 
 pub renew-spec : {M : Type 1} → statement M
-renew-spec = tie.close (tie.spec mix-both-requires store-requires same-length returns)
+renew-spec = tie.close (tie.spec mix-both-requires (λ c κs. search needs) (λ c. search needs) returns)

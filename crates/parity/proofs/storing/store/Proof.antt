@@ -61,17 +61,11 @@ offsets-requires c κs = start c .pre .stored .shelf
 div-is-present : tie.Need-div-is-present
 div-is-present c = rw (c .before .offsets .ensures) (depth-pos _ (start (c .before .before) .pre .stored .shelf))
 
-is-present-requires : tie.Need-is-present-requires
-is-present-requires c κs = search needs
-
 store-requires : tie.Need-store-requires
 store-requires c κs =
     let n = c .before .before .before .before .before in
     let w = start n .pre in
     number-fits w _ (data-lt w) (unit-is n)
-
-same-length : tie.Need-same-length
-same-length c = search needs
 
 returns : tie.Need-returns
 returns c =
@@ -84,17 +78,11 @@ div-is-present-2 c =
     let at = c .before .before .before .before in
     rw (at .offsets .ensures) (depth-pos _ (start (at .before) .pre .stored .shelf))
 
-is-present-requires-2 : tie.Need-is-present-requires-2
-is-present-requires-2 c κs = search needs
-
 store-lost-requires : tie.Need-store-lost-requires
 store-lost-requires c κs = let s = start (c .before .before .before .before .before .before .before .before) in s .pre
 
 sub-t19 : tie.Need-sub-t19
 sub-t19 c = omega (arith, call-data-lt (start (c .before .before .before .before .before .before .before .before .before .before .before .before) .pre))
-
-same-length-2 : tie.Need-same-length-2
-same-length-2 c = search needs
 
 returns-2 : tie.Need-returns-2
 returns-2 c =
@@ -108,9 +96,6 @@ renew-requires c κs =
     let n = c .before .before .before .before .before .before .before .before in
     let w = start n .pre in
     (number-fits w _ (data-lt w) (unit-is n), number-fits w _ (parity-lt w) (parity-is n))
-
-same-length-3 : tie.Need-same-length-3
-same-length-3 c = search needs
 
 returns-3 : tie.Need-returns-3
 returns-3 c =
@@ -129,16 +114,16 @@ store-spec =
     numbers-of-requires
     offsets-requires
     div-is-present
-    is-present-requires
+    (λ c κs. search needs)
     store-requires
-    same-length
+    (λ c. search needs)
     returns
     div-is-present-2
-    is-present-requires-2
+    (λ c κs. search needs)
     store-lost-requires
     sub-t19
-    same-length-2
+    (λ c. search needs)
     returns-2
     renew-requires
-    same-length-3
+    (λ c. search needs)
     returns-3)

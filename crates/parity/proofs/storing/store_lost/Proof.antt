@@ -32,9 +32,6 @@ reparity-requires c κs =
     let at = c .before .before .before in
     sum-asks (start at .pre) _ _ (at .before .ranks-of .ensures) (at .shape-of .ensures)
 
-same-length : tie.Need-same-length
-same-length c = search needs
-
 returns : tie.Need-returns
 returns c =
     let at = c .before .before .before .before .before .before in
@@ -51,5 +48,5 @@ store-lost-spec =
     sub-j
     rem-j
     reparity-requires
-    same-length
+    (λ c. search needs)
     returns)

@@ -26,18 +26,9 @@ clear-unit-requires c κs =
     let s = c .before .before .before .before in
     place-fits (s .pre .0) (s .pre .1 .0) (s .pre .1 .1)
 
-same-length : tie.Need-same-length
-same-length c = search needs
-
 returns : tie.Need-returns
 unfolding xorSum
 returns c = (omega arith, c .before .before .clear-unit .ensures)
-
-second-beside-requires : tie.Need-second-beside-requires
-second-beside-requires c κs = search needs
-
-first-beside-requires : tie.Need-first-beside-requires
-first-beside-requires c κs = search needs
 
 -- the two indices are below k
 beside : (c : tie.After-first-beside) →
@@ -67,9 +58,6 @@ join-requires c κs =
 add-result : tie.Need-add-result
 add-result c = omega (arith, beside (c .before .before .before .before .before .before) .2)
 
-same-length-2 : tie.Need-same-length-2
-same-length-2 c = search needs
-
 returns-2 : tie.Need-returns-2
 returns-2 c =
     let at-y = c .before .before .before .before in
@@ -94,13 +82,13 @@ begin-spec =
     tie.close
     (tie.spec
     clear-unit-requires
-    same-length
+    (λ c. search needs)
     returns
-    second-beside-requires
-    first-beside-requires
+    (λ c κs. search needs)
+    (λ c κs. search needs)
     number-requires
     number-requires-2
     join-requires
     add-result
-    same-length-2
+    (λ c. search needs)
     returns-2)

@@ -16,28 +16,16 @@ Inv-loop unit₀ image table ranks shape s i k j₀ unit j = (j ≤ k) × LentSu
 abbrev μ-loop : tie.MeasureT-loop
 μ-loop unit₀ image table ranks shape s i k j₀ unit j = k - j
 
-clear-requires : tie.Need-clear-requires Inv-loop μ-loop
-clear-requires c κs = search needs
-
 loop-holds : tie.Need-loop-holds Inv-loop μ-loop
 loop-holds c =
     let start = c .before .before .before .before .before .before in
     (omega arith, lent-none (c .before .before .clear .ensures ∙ ap zeros (start .pre .1)))
-
-number-requires : tie.Need-number-requires Inv-loop μ-loop
-number-requires c κs = search needs
 
 mix-out-requires : tie.Need-mix-out-requires Inv-loop μ-loop
 mix-out-requires c κs =
     let turn = c .before .before .before in
     let start = turn .before .before .before .before .before .before .before .before in
     rw (turn .before .loop .inv .1 .size) (place-fits (start .pre .0) (turn .loop-test .taken) (c .before .number .ensures))
-
-add-j : tie.Need-add-j Inv-loop μ-loop
-add-j c = omega arith
-
-loop-less : tie.Need-loop-less Inv-loop μ-loop
-loop-less c = omega arith
 
 loop-again : tie.Need-loop-again Inv-loop μ-loop
 loop-again c =
@@ -62,12 +50,12 @@ gather-spec =
     (tie.spec
     Inv-loop
     μ-loop
-    clear-requires
+    (λ c κs. search needs)
     loop-holds
-    number-requires
+    (λ c κs. search needs)
     mix-out-requires
-    add-j
-    loop-less
+    (λ c. omega arith)
+    (λ c. omega arith)
     loop-again
     same-length
     returns)

@@ -16,12 +16,6 @@ Inv-loop image₀ table ranks shape s j unit parity size to i₀ image i = (i �
 abbrev μ-loop : tie.MeasureT-loop
 μ-loop image₀ table ranks shape s j unit parity size to i₀ image i = parity - i
 
-sub-parity : tie.Need-sub-parity Inv-loop μ-loop
-sub-parity c = omega arith
-
-number-requires : tie.Need-number-requires Inv-loop μ-loop
-number-requires c κs = search needs
-
 clear-unit-requires : tie.Need-clear-unit-requires Inv-loop μ-loop
 clear-unit-requires c κs =
     let start = c .before .before .before .before .before in
@@ -40,19 +34,10 @@ mix-in-requires c κs =
     let start = at .before .before .before .before .before .before .before .before .before in
     rw (start .pre .1) (omega (arith, at .loop .inv .1 .sum .fits, at .loop .inv .1 .sum .same))
 
-number-requires-2 : tie.Need-number-requires-2 Inv-loop μ-loop
-number-requires-2 c κs = search needs
-
 mix-within-requires : tie.Need-mix-within-requires Inv-loop μ-loop
 mix-within-requires c κs =
     let turn = c .before .before .before in
     stripe-mixes (turn .before .loop .inv .1) (omega arith) (c .before .number2 .ensures)
-
-add-i : tie.Need-add-i Inv-loop μ-loop
-add-i c = omega arith
-
-loop-less : tie.Need-loop-less Inv-loop μ-loop
-loop-less c = omega arith
 
 loop-again : tie.Need-loop-again Inv-loop μ-loop
 loop-again c =
@@ -81,15 +66,15 @@ reparity-spec =
     (tie.spec
     Inv-loop
     μ-loop
-    sub-parity
-    number-requires
+    (λ c. omega arith)
+    (λ c κs. search needs)
     clear-unit-requires
     loop-holds
     mix-in-requires
-    number-requires-2
+    (λ c κs. search needs)
     mix-within-requires
-    add-i
-    loop-less
+    (λ c. omega arith)
+    (λ c. omega arith)
     loop-again
     same-length
     returns)

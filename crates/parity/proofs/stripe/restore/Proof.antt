@@ -17,9 +17,6 @@ Inv-loop image₀ table ranks shape s i k size to begun j₀ image j = (j ≤ k)
 abbrev μ-loop : tie.MeasureT-loop
 μ-loop image₀ table ranks shape s i k size to begun j₀ image j = k - j
 
-number-requires : tie.Need-number-requires Inv-loop μ-loop
-number-requires c κs = search needs
-
 begin-requires : tie.Need-begin-requires Inv-loop μ-loop
 begin-requires c κs =
     let start = c .before .before .before in
@@ -32,19 +29,10 @@ loop-holds c =
     let begun = at .begin .ensures in
     (begun .0, stripe-begun (start .args .image .now) (start .pre .0) (start .pre .1) (at .before .before .number .ensures) (length-replicate _ 0) (begun .0) (λ n l ne. ne) (begun .1))
 
-number-requires-2 : tie.Need-number-requires-2 Inv-loop μ-loop
-number-requires-2 c κs = search needs
-
 mix-within-requires : tie.Need-mix-within-requires Inv-loop μ-loop
 mix-within-requires c κs =
     let turn = c .before .before .before in
     stripe-mixes (turn .before .loop .inv .1) (turn .loop-test .taken) (c .before .number2 .ensures)
-
-add-j : tie.Need-add-j Inv-loop μ-loop
-add-j c = omega arith
-
-loop-less : tie.Need-loop-less Inv-loop μ-loop
-loop-less c = omega arith
 
 loop-again : tie.Need-loop-again Inv-loop μ-loop
 loop-again c =
@@ -73,13 +61,13 @@ restore-spec =
     (tie.spec
     Inv-loop
     μ-loop
-    number-requires
+    (λ c κs. search needs)
     begin-requires
     loop-holds
-    number-requires-2
+    (λ c κs. search needs)
     mix-within-requires
-    add-j
-    loop-less
+    (λ c. omega arith)
+    (λ c. omega arith)
     loop-again
     same-length
     returns)

@@ -22,9 +22,6 @@ inside : (start : tie.Start Inv-loop μ-loop) (i : ℕ) → i < start .args .cou
     → i * start .args .size + start .args .size ≤ length (start .args .buffer .now)
 inside start i l = omega (arith, mul-le-mul-right (start .args .size) l)
 
-clear-unit-requires : tie.Need-clear-unit-requires Inv-loop μ-loop
-clear-unit-requires c κs = omega arith
-
 loop-holds : tie.Need-loop-holds Inv-loop μ-loop
 loop-holds c =
     let start = c .before .before .before .before .before .before in
@@ -36,12 +33,6 @@ mul-at c = omega (arith, inside (c .before .before .before .before .before .befo
 add-mix-in : tie.Need-add-mix-in Inv-loop μ-loop
 add-mix-in c = omega (arith, inside (c .before .before .before .before .before .before .before .before .before) _ (c .before .loop-test .taken))
 
-sub-mix-in : tie.Need-sub-mix-in Inv-loop μ-loop
-sub-mix-in c = omega arith
-
-part-mix-in-start : tie.Need-part-mix-in-start Inv-loop μ-loop
-part-mix-in-start c = omega arith
-
 part-mix-in-end : tie.Need-part-mix-in-end Inv-loop μ-loop
 part-mix-in-end c = omega (arith, inside (c .before .before .before .before .before .before .before .before .before) _ (c .before .loop-test .taken))
 
@@ -51,12 +42,6 @@ mix-in-requires c κs =
     let start = at .before .before .before .before .before .before .before in
     rw (part-size (start .args .size) (start .args .buffer .now) (at .loop .i) (inside start (at .loop .i) (c .before .before .loop-test .taken)))
     (omega (arith, at .loop .inv .1 .fits, at .loop .inv .1 .same))
-
-add-i : tie.Need-add-i Inv-loop μ-loop
-add-i c = omega arith
-
-loop-less : tie.Need-loop-less Inv-loop μ-loop
-loop-less c = omega arith
 
 loop-again : tie.Need-loop-again Inv-loop μ-loop
 loop-again c =
@@ -84,16 +69,16 @@ seal-spec =
     (tie.spec
     Inv-loop
     μ-loop
-    clear-unit-requires
+    (λ c κs. omega arith)
     loop-holds
     mul-at
     add-mix-in
-    sub-mix-in
-    part-mix-in-start
+    (λ c. omega arith)
+    (λ c. omega arith)
     part-mix-in-end
     mix-in-requires
-    add-i
-    loop-less
+    (λ c. omega arith)
+    (λ c. omega arith)
     loop-again
     same-length
     returns)

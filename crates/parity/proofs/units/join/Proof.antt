@@ -22,45 +22,12 @@ Inv-loop image₀ to x y size a b c i₀ image i = Begun image₀ (to * size) (J
 abbrev μ-loop : tie.MeasureT-loop
 μ-loop image₀ to x y size a b c i₀ image i = size - i
 
-mul-a : tie.Need-mul-a Inv-loop μ-loop
-mul-a c = omega arith
-
-mul-b : tie.Need-mul-b Inv-loop μ-loop
-mul-b c = omega arith
-
-mul-c : tie.Need-mul-c Inv-loop μ-loop
-mul-c c = omega arith
-
 loop-holds : tie.Need-loop-holds Inv-loop μ-loop
 loop-holds c =
     let a = c .args in
     begun-none _ _ _ _
     (xorU-length (a .size) _ _ (unit-size (a .size) (a .image .now) (a .x) (c .pre .1)) (unit-size (a .size) (a .image .now) (a .y) (c .pre .2)))
     (c .pre .0)
-
-add-image : tie.Need-add-image Inv-loop μ-loop
-add-image c = omega arith
-
-slice-read-image : tie.Need-slice-read-image Inv-loop μ-loop
-slice-read-image c = omega arith
-
-add-image-2 : tie.Need-add-image-2 Inv-loop μ-loop
-add-image-2 c = omega arith
-
-slice-read-image-2 : tie.Need-slice-read-image-2 Inv-loop μ-loop
-slice-read-image-2 c = omega arith
-
-add-image-3 : tie.Need-add-image-3 Inv-loop μ-loop
-add-image-3 c = omega arith
-
-slice-write-image : tie.Need-slice-write-image Inv-loop μ-loop
-slice-write-image c = omega arith
-
-add-i : tie.Need-add-i Inv-loop μ-loop
-add-i c = omega arith
-
-loop-less : tie.Need-loop-less Inv-loop μ-loop
-loop-less c = omega arith
 
 loop-again : tie.Need-loop-again Inv-loop μ-loop
 loop-again c =
@@ -84,18 +51,18 @@ join-spec =
     (tie.spec
     Inv-loop
     μ-loop
-    mul-a
-    mul-b
-    mul-c
+    (λ c. omega arith)
+    (λ c. omega arith)
+    (λ c. omega arith)
     loop-holds
-    add-image
-    slice-read-image
-    add-image-2
-    slice-read-image-2
-    add-image-3
-    slice-write-image
-    add-i
-    loop-less
+    (λ c. omega arith)
+    (λ c. omega arith)
+    (λ c. omega arith)
+    (λ c. omega arith)
+    (λ c. omega arith)
+    (λ c. omega arith)
+    (λ c. omega arith)
+    (λ c. omega arith)
     loop-again
     same-length
     returns)

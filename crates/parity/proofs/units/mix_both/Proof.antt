@@ -33,12 +33,6 @@ Inv-loop image₀ to from unit size a b i₀ image i = (size ≡ length unit) ×
 abbrev μ-loop : tie.MeasureT-loop
 μ-loop image₀ to from unit size a b i₀ image i = size - i
 
-mul-a : tie.Need-mul-a Inv-loop μ-loop
-mul-a c = omega arith
-
-mul-b : tie.Need-mul-b Inv-loop μ-loop
-mul-b c = omega arith
-
 loop-holds : tie.Need-loop-holds Inv-loop μ-loop
 loop-holds c =
     let a = c .args in
@@ -48,33 +42,6 @@ loop-holds c =
           (xorU-length U _ _ (unit-size U (a .image .now) (a .to) (c .pre .0)) (xorU-length U _ _ (unit-size U (a .image .now) (a .from) (c .pre .1)) refl))
           (c .pre .0),
     )
-
-add-image : tie.Need-add-image Inv-loop μ-loop
-add-image c = omega arith
-
-slice-read-image : tie.Need-slice-read-image Inv-loop μ-loop
-slice-read-image c = omega arith
-
-add-image-2 : tie.Need-add-image-2 Inv-loop μ-loop
-add-image-2 c = omega arith
-
-slice-read-image-2 : tie.Need-slice-read-image-2 Inv-loop μ-loop
-slice-read-image-2 c = omega arith
-
-shared-slice-read-image : tie.Need-shared-slice-read-image Inv-loop μ-loop
-shared-slice-read-image c = omega arith
-
-add-image-3 : tie.Need-add-image-3 Inv-loop μ-loop
-add-image-3 c = omega arith
-
-slice-write-image : tie.Need-slice-write-image Inv-loop μ-loop
-slice-write-image c = omega arith
-
-add-i : tie.Need-add-i Inv-loop μ-loop
-add-i c = omega arith
-
-loop-less : tie.Need-loop-less Inv-loop μ-loop
-loop-less c = omega arith
 
 loop-again : tie.Need-loop-again Inv-loop μ-loop
 loop-again c =
@@ -97,18 +64,18 @@ mix-both-spec =
     (tie.spec
     Inv-loop
     μ-loop
-    mul-a
-    mul-b
+    (λ c. omega arith)
+    (λ c. omega arith)
     loop-holds
-    add-image
-    slice-read-image
-    add-image-2
-    slice-read-image-2
-    shared-slice-read-image
-    add-image-3
-    slice-write-image
-    add-i
-    loop-less
+    (λ c. omega arith)
+    (λ c. omega arith)
+    (λ c. omega arith)
+    (λ c. omega arith)
+    (λ c. omega arith)
+    (λ c. omega arith)
+    (λ c. omega arith)
+    (λ c. omega arith)
+    (λ c. omega arith)
     loop-again
     same-length
     returns)

@@ -32,26 +32,8 @@ entry-lt c =
     let position : c .if1 .position < a .k = ⊎-elim (λ w. omega arith) (⊎-elim (λ w. omega arith) (λ w. omega arith)) (c .if1 .came) in
     omega (arith, digits-lt {m = a .b} {c = a .k} (mod-lt (a .s) (omega arith)) position)
 
-div-row : tie.Need-div-row
-div-row c = search needs
-
-sub-parity : tie.Need-sub-parity
-sub-parity c = search needs
-
-rem-parity : tie.Need-rem-parity
-rem-parity c = search needs
-
 sub-parity-2 : tie.Need-sub-parity-2
 sub-parity-2 c = omega (arith, mod-lt (c .args .s / c .args .b) {m = c .args .k} (omega arith))
-
-sub-if1 : tie.Need-sub-if1
-sub-if1 c = search needs
-
-add-position : tie.Need-add-position
-add-position c = search needs
-
-rem-entry : tie.Need-rem-entry
-rem-entry c = search needs
 
 mul-entry : tie.Need-mul-entry
 mul-entry c = omega (arith, entry-lt c)
@@ -61,9 +43,6 @@ add-entry c = omega (arith, entry-lt (c .before))
 
 element-copy-out-wide : tie.Need-element-copy-out-wide
 element-copy-out-wide c = entry-lt (c .before)
-
-wide-requires : tie.Need-wide-requires
-wide-requires c κs = search needs
 
 -- ---- the number's two parts, once the disk is found
 
@@ -91,9 +70,6 @@ mul-wider c = omega (arith, entry-lt (c .before .before .before))
 element-copy-out-wider : tie.Need-element-copy-out-wider
 element-copy-out-wider c = entry-lt (c .before .before .before)
 
-wider-requires : tie.Need-wider-requires
-wider-requires c κs = search needs
-
 add-result : tie.Need-add-result
 add-result c = omega (arith, bounds (c .before .before))
 
@@ -113,22 +89,22 @@ pub number-spec : {M : Type 1} → statement M
 number-spec =
     tie.close
     (tie.spec
-    div-row
-    sub-parity
-    rem-parity
+    (λ c. search needs)
+    (λ c. search needs)
+    (λ c. search needs)
     sub-parity-2
-    sub-if1
-    add-position
-    rem-entry
+    (λ c. search needs)
+    (λ c. search needs)
+    (λ c. search needs)
     mul-entry
     add-entry
     element-copy-out-wide
-    wide-requires
+    (λ c κs. search needs)
     mul-result
     mul-result-2
     mul-wider
     element-copy-out-wider
-    wider-requires
+    (λ c κs. search needs)
     add-result
     add-result-2
     returns)

@@ -20,12 +20,6 @@ abbrev μ-loop : tie.MeasureT-loop
 loop-holds : tie.Need-loop-holds Inv-loop μ-loop
 loop-holds c = (omega arith, listing-none _ _)
 
-element-copy-out-if1 : tie.Need-element-copy-out-if1 Inv-loop μ-loop
-element-copy-out-if1 c = omega arith
-
-cast-entries : tie.Need-cast-entries Inv-loop μ-loop
-cast-entries c = omega arith
-
 found-lt : (c : tie.Then1 Inv-loop μ-loop) → c .before .before .before .loop .found < 2048
 found-lt c =
     let l = c .before .before .before .loop in
@@ -39,12 +33,6 @@ array-write-entries c = found-lt c
 
 add-found : tie.Need-add-found Inv-loop μ-loop
 add-found c = omega (arith, found-lt c)
-
-add-i : tie.Need-add-i Inv-loop μ-loop
-add-i c = omega arith
-
-loop-less : tie.Need-loop-less Inv-loop μ-loop
-loop-less c = omega arith
 
 loop-again : tie.Need-loop-again Inv-loop μ-loop
 loop-again c =
@@ -71,12 +59,12 @@ entries-spec =
     Inv-loop
     μ-loop
     loop-holds
-    element-copy-out-if1
-    cast-entries
+    (λ c. omega arith)
+    (λ c. omega arith)
     mul-entries
     array-write-entries
     add-found
-    add-i
-    loop-less
+    (λ c. omega arith)
+    (λ c. omega arith)
     loop-again
     returns)

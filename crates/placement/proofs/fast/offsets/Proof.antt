@@ -11,8 +11,5 @@ mul-result c = omega (arith, bounds _ (c .before .pre))
 mul-result-2 : tie.Need-mul-result-2
 mul-result-2 c = omega (arith, bounds _ (c .before .before .pre))
 
-returns : tie.Need-returns
-returns c = search needs
-
 pub offsets-spec : {M : Type 1} → statement M
-offsets-spec = tie.close (tie.spec mul-result mul-result-2 returns)
+offsets-spec = tie.close (tie.spec mul-result mul-result-2 (λ c. search needs))

@@ -78,9 +78,6 @@ add-offset c = omega (arith, offset (c .before .before))
 add-offset-2 : tie.Need-add-offset-2
 add-offset-2 c = omega (arith, offset (c .before .before))
 
-cast-t11 : tie.Need-cast-t11
-cast-t11 c = search needs
-
 pub place-in-spec : {M : Type 1} → statement M
 place-in-spec =
     tie.close
@@ -95,5 +92,5 @@ place-in-spec =
     mul-offset-3
     add-offset
     add-offset-2
-    cast-t11
+    (λ c. search needs)
     returns)

@@ -23,9 +23,6 @@ below c = c .before .before .pre .1 (c .before .loop .i) (c .loop-test .taken)
 loop-holds : tie.Need-loop-holds Inv-loop μ-loop
 loop-holds c = (omega arith, refl, refl, counted-none (c .args .table .now), λ x l. absurd (omega arith))
 
-element-copy-out-disk : tie.Need-element-copy-out-disk Inv-loop μ-loop
-element-copy-out-disk c = omega arith
-
 cast-disk : tie.Need-cast-disk Inv-loop μ-loop
 cast-disk c = omega (arith, below (c .before))
 
@@ -34,12 +31,6 @@ mul-ranks c = omega (arith, below (c .before))
 
 array-read-ranks : tie.Need-array-read-ranks Inv-loop μ-loop
 array-read-ranks c = below (c .before)
-
-mul-ranks-2 : tie.Need-mul-ranks-2 Inv-loop μ-loop
-mul-ranks-2 c = omega arith
-
-array-write-ranks : tie.Need-array-write-ranks Inv-loop μ-loop
-array-write-ranks c = omega arith
 
 mul-counts : tie.Need-mul-counts Inv-loop μ-loop
 mul-counts c = omega (arith, below (c .before))
@@ -56,12 +47,6 @@ add-counts c =
 
 array-write-counts : tie.Need-array-write-counts Inv-loop μ-loop
 array-write-counts c = below (c .before)
-
-add-i : tie.Need-add-i Inv-loop μ-loop
-add-i c = omega arith
-
-loop-less : tie.Need-loop-less Inv-loop μ-loop
-loop-less c = omega arith
 
 loop-again : tie.Need-loop-again Inv-loop μ-loop
 loop-again c =
@@ -86,17 +71,17 @@ ranks-spec =
     Inv-loop
     μ-loop
     loop-holds
-    element-copy-out-disk
+    (λ c. omega arith)
     cast-disk
     mul-ranks
     array-read-ranks
-    mul-ranks-2
-    array-write-ranks
+    (λ c. omega arith)
+    (λ c. omega arith)
     mul-counts
     array-read-counts
     add-counts
     array-write-counts
-    add-i
-    loop-less
+    (λ c. omega arith)
+    (λ c. omega arith)
     loop-again
     returns)

@@ -15,26 +15,11 @@ some c = mul-pos (c .pre .1) (c .pre .0)
 copy-lt : (c : tie.Start) → c .args .stripe % (c .args .b * c .args .k) / c .args .b < c .args .k
 copy-lt c = div-lt-iff-lt-mul (c .pre .1) .1 (omega (arith, mod-lt (c .args .stripe) (some c)))
 
-mul-full-table : tie.Need-mul-full-table
-mul-full-table c = search needs
-
 div-full-table : tie.Need-div-full-table
 div-full-table c = some c
 
-mul-w : tie.Need-mul-w
-mul-w c = search needs
-
 rem-w : tie.Need-rem-w
 rem-w c = some c
-
-div-copy : tie.Need-div-copy
-div-copy c = search needs
-
-rem-tuple : tie.Need-rem-tuple
-rem-tuple c = search needs
-
-sub-parity : tie.Need-sub-parity
-sub-parity c = search needs
 
 sub-parity-2 : tie.Need-sub-parity-2
 sub-parity-2 c = omega (arith, copy-lt c)
@@ -47,12 +32,12 @@ pub split-of-spec : {M : Type 1} → statement M
 split-of-spec =
     tie.close
     (tie.spec
-    mul-full-table
+    (λ c. search needs)
     div-full-table
-    mul-w
+    (λ c. search needs)
     rem-w
-    div-copy
-    rem-tuple
-    sub-parity
+    (λ c. search needs)
+    (λ c. search needs)
+    (λ c. search needs)
     sub-parity-2
     returns)

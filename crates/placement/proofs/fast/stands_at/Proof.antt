@@ -114,9 +114,6 @@ returns c =
     let n = c .before .before in
     sym (stands-parity (L (start n)) _ _ (stripe-is n) (position-is n) (c .if1 .taken ∙ parity-is (c .before)))
 
-sub-j : tie.Need-sub-j
-sub-j c = search needs
-
 sub-address : tie.Need-sub-address
 sub-address c = omega (arith, E (start (c .before .before .before)) .k-least)
 
@@ -148,7 +145,7 @@ stands-at-spec =
     rem-position
     split-of-requires
     returns
-    sub-j
+    (λ c. search needs)
     sub-address
     mul-address
     add-address

@@ -11,8 +11,5 @@ mul-result c = omega (arith, bounds _ (c .before .pre))
 mul-result-2 : tie.Need-mul-result-2
 mul-result-2 c = omega (arith, bounds _ (c .before .before .pre))
 
-returns : tie.Need-returns
-returns c = search needs
-
 pub stripes-spec : {M : Type 1} → statement M
-stripes-spec = tie.close (tie.spec mul-result mul-result-2 returns)
+stripes-spec = tie.close (tie.spec mul-result mul-result-2 (λ c. search needs))
