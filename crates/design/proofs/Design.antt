@@ -82,10 +82,6 @@ module _ (D : Design) (below : DisksBelow D) (different : NoneTwice D) where
       each : (q : ℕ) → q < D .b → count (λ e. holds D q d && holds D q e) (D .v) ≡ D .k * cond (holds D q d) 1 0
       each q l = count-both (holds D q d) (holds D q) (D .v) ∙ ap (λ (n : ℕ). n * cond (holds D q d) 1 0) (tuple-size q l)
 
-  -- the pairs, each in both orders, and each disk with itself
-  pub all-pairs : sum (λ d. sum (shared D (D .b) d) (D .v)) (D .v) ≡ D .b * D .k * D .k
-  all-pairs = sum-ext _ _ (D .v) (λ d l. pairs-with d) ∙ sum-mul (D .k) (before D (D .b)) (D .v) ∙ ap (λ (n : ℕ). D .k * n) all-places ∙ omega arith
-
 -- ---- balanced designs
 
 module _ (D : Design) (below : DisksBelow D) (r lambda : ℕ) (balanced : Balanced D r lambda) where

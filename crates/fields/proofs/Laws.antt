@@ -2,14 +2,14 @@
 use mathlib.Core.Path.{_≡_, refl, sym, ap, _∙_}
 use mathlib.Core.Logic.{_≢_, _⊎_, inl, inr, ⊎-elim, _↔_}
 use mathlib.Core.Bool.{true, _&&_, and-eq-true-iff}
-use mathlib.Core.List.{List, _++_}
+use mathlib.Core.List.{List}
 use Prim.Native.Nat.{ℕ, zero, suc, _+_, _-_, _*_, _/_, _%_, _^_, _≤_, _<_}
 use native.Mathlib.Nat.{lt-of-lt-of-le, mod-lt, pow-suc, eq-or-lt-of-le}
 use native.Mathlib.Decide.{ℕ-discrete, decLt}
 use native.Mathlib.Omega.{arith}
 use borrow.Author.Tests.{le-leb, leb-true, lt-ltb}
 use lib.Dec.{leb}
-use lib.ListN.{length, getD, length-set, List·getD-append}
+use lib.ListN.{length, getD, length-set}
 use lib.Pow.{pow-pos, pow-mono}
 use lib.Seq.{getD-set-same, getD-set-other, set-out, ext-getD}
 use Rattle.fields.specs.declared.Found.{Found}
@@ -192,10 +192,6 @@ ext-bits a b e ha hb same =
     ext-getD 0 a b e
     (λ i h.
     sym (field-byte a i (ha i)) ∙ field-ext a b (8 * i) (8 * i) 8 (λ j l. same (8 * i + j) (omega arith)) ∙ field-byte b i (hb i))
-
-pub bit-append : (a b : List ℕ) (i : ℕ) → i < 8 * length a → bitAt (a ++ b) i ≡ bitAt a i
-unfolding bitAt
-bit-append a b i h = ap (λ (n : ℕ). n / 2 ^ (7 - i % 8) % 2) (List·getD-append a b 0 (i / 8) (omega arith))
 
 -- ---- when there is a field
 

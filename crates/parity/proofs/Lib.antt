@@ -28,7 +28,6 @@ pub mod Counts
 pub mod Sets
 pub mod Untouched
 pub mod Defined
-pub mod Numbers
 pub mod Kept
 pub mod By
 pub mod PromisedRead

@@ -1,15 +1,15 @@
--- The first broken rule of a list, found by trying rule after rule, and the tests by which the code tries them. Assumes nothing.
-use mathlib.Core.Path.{_≡_, refl, sym, _∙_}
-use mathlib.Core.Bool.{true, false}
+-- The first broken rule of a list, found by trying rule after rule. Assumes nothing.
+use mathlib.Core.Path.{_≡_, refl, sym, ap, _∙_}
+use mathlib.Core.Bool.{Bool, true, false, _&&_}
 use mathlib.Core.List.{List, [], _∷_, _++_}
-use Prim.Native.Nat.{ℕ, _≤_, _<_}
+use Prim.Native.Nat.{ℕ}
 use native.Mathlib.Omega.{arith}
-use lib.Dec.{ltb, eqb}
-use borrow.Author.Tests.{lt-ltb, le-ltb, eq-eqb, ne-eqb}
 use Rattle.design.specs.declared.Refusal.{Refusal}
 use Rattle.design.specs.declared.Verdict.{Verdict}
 use Rattle.design.specs.declared.Verdict.the-variants.{Accepted, Refused}
 use Rattle.design.specs.Refusals.{Rule, firstBroken}
+use Rattle.parity.specs.Calls.{by}
+use Rattle.parity.specs.inner.Judged.{following}
 use Rattle.parity.proofs.Cases.{cases}
 use Rattle.parity.proofs.Accepted.{rule-kept}
 
@@ -36,22 +36,40 @@ module _ (rest : List Rule) where
   past-all [] a e = e
   past-all (x ∷ first) a e = let p = rule-kept x first .0 a in past x (first ++ rest) (p .0) (past-all first (p .1) e)
 
-  pub broken-within : (first : List Rule) {x : Refusal} → firstBroken first ≡ Refused x → firstBroken first ≡ firstBroken (first ++ rest)
+  broken-within : (first : List Rule) {x : Refusal} → firstBroken first ≡ Refused x → firstBroken first ≡ firstBroken (first ++ rest)
   unfolding firstBroken
   broken-within [] e = let z : _≡_ {A = ℕ} 0 1 = cc in absurd (omega arith)
   broken-within (y ∷ first) e = cases (y .kept) (λ t. rw t (broken-within first (rw t at e))) (λ t. rw t)
 
--- ---- a number a against one that was reckoned as m and should be n
+  -- the verdict v of the first rules is a refusal
+  pub refused-already : (first : List Rule) {v : Verdict} {x : Refusal} → v ≡ firstBroken first → v ≡ Refused x → v ≡ firstBroken (first ++ rest)
+  refused-already first e f = e ∙ broken-within first (sym e ∙ f)
 
-module _ (a : ℕ) {m n : ℕ} (e : m ≡ n) where
-  pub is-below : a < m → ltb a n ≡ true
-  is-below l = lt-ltb a n (rw (sym e) l)
+-- ---- the rules so far, and one more
 
-  pub not-below : m ≤ a → ltb a n ≡ false
-  not-below l = le-ltb a n (rw (sym e) l)
+module _ (x : Rule) where
+  after-all : (first : List Rule) → following (firstBroken first) (x .kept) (x .refusal) ≡ firstBroken (first ++ x ∷ [])
+  unfolding firstBroken by
+  after-all [] = refl
+  after-all (y ∷ first) = cases (y .kept) (λ t. rw t (after-all first)) (λ t. rw t)
 
-  pub is-same : a ≡ m → eqb a n ≡ true
-  is-same q = eq-eqb a n (q ∙ e)
+  refused-before : {v : Verdict} {r : Refusal} (k : Bool) → v ≡ Refused r → following v k (x .refusal) ≡ following v (x .kept) (x .refusal)
+  unfolding by
+  refused-before k e = rw e
 
-  pub not-same : (a ≡ m → ⊥) → eqb a n ≡ false
-  not-same q = ne-eqb a n (λ s. q (s ∙ sym e))
+  following-kept : (v : Verdict) (k : Bool) → (v ≡ Accepted → k ≡ x .kept) → following v k (x .refusal) ≡ following v (x .kept) (x .refusal)
+  following-kept Accepted k same = ap (λ (t : Bool). following Accepted t (x .refusal)) (same refl)
+  following-kept (Refused r) k same = refused-before k refl
+
+  -- whether the last rule is kept matters only where the others are
+  pub also-rule : (first : List Rule) {v : Verdict} {k : Bool} → v ≡ firstBroken first → (firstBroken first ≡ Accepted → k ≡ x .kept)
+      → following v k (x .refusal) ≡ firstBroken (first ++ x ∷ [])
+  also-rule first {v} {k} e same =
+      ap (λ (w : Verdict). following w k (x .refusal)) e ∙ following-kept (firstBroken first) k same ∙ after-all first
+
+-- two rules with one refusal are one rule
+pub two-as-one : (first : List Rule) (r : Refusal) (a b : Bool)
+    → firstBroken (first ++ record { refusal = r; kept = a } ∷ record { refusal = r; kept = b } ∷ []) ≡ firstBroken (first ++ record { refusal = r; kept = a && b } ∷ [])
+unfolding firstBroken
+two-as-one [] r a b = cases a (λ t. rw t) (λ t. rw t)
+two-as-one (y ∷ first) r a b = cases (y .kept) (λ t. rw t (two-as-one first r a b)) (λ t. rw t)

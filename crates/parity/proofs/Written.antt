@@ -78,9 +78,6 @@ module _ (h : Shelf) (ok : isShelf h ≡ true) (image : List ℕ) (len : length 
       pub beside-kept : i ≢ j → i ≢ h .k - 1 → cell h (unitWritten h image s j x) t i ≡ cell h image t i
       beside-kept nd np = unit-written t i ht hi ∙ rw (ne-eqb i j nd, ne-eqb i (h .k - 1) np, and-false (eqb t s))
 
-      pub lost-kept : present h (unitIn h t i) ≡ false → cell h (unitWritten h image s j x) t i ≡ cell h image t i
-      lost-kept e = unit-written t i ht hi ∙ rw (e, and-false (eqb t s && (eqb i j || eqb i (h .k - 1))))
-
   -- ---- a stripe write
 
   module _ (s : ℕ) (buffer : List ℕ) (hb : length buffer ≡ (h .k - 1) * unitSize h) where

@@ -88,12 +88,6 @@ pub xorU-cancel : (x y : List ℕ) → length x ≡ length y → xorU x (xorU x 
 xorU-cancel x y e =
     sym (xorU-assoc x x y) ∙ ap (λ (w : List ℕ). xorU w y) (xorU-self x) ∙ xorU-zeros-left (length x) y (sym e)
 
--- two units whose exclusive-or is zero are equal
-pub xorU-equal : (U : ℕ) (x y : List ℕ) → length x ≡ U → length y ≡ U → xorU x y ≡ zeros U → x ≡ y
-xorU-equal U x y p q e =
-    let l : length x ≡ length y = cc in
-    sym (xorU-zeros U x p) ∙ ap (xorU x) (sym e) ∙ xorU-cancel x y l
-
 -- ---- all zeros
 
 zeros-zero : (n : ℕ) → isZero (zeros n) ≡ true

@@ -2,13 +2,26 @@
 ghost use mathlib.Core.Path.{_≡_};
 ghost use Rattle.design.specs.Refusals.{firstBroken};
 ghost use Rattle.parity.specs.Calls.{wholeRules, unitRules, stripeRules, loseRules, rebuildRules, placeRules};
-ghost use Rattle.parity.specs.inner.Judged.{imageRules, spanRules};
+ghost use Rattle.parity.specs.inner.Judged.{imageRules, spanRules, following};
 use crate::presence;
 use crate::sizes;
 use design::Refusal;
 use design::Shelf;
 use design::Verdict;
 use placement::fast;
+
+// The verdict of the rules so far and of one more.
+fn also(verdict: Verdict, kept: bool, refusal: Refusal) -> Verdict
+    ensures { λ r. ⌜ r ≡ following verdict kept refusal ⌝ }
+{
+    let Verdict::Accepted = verdict else {
+        return verdict;
+    };
+    if !kept {
+        return Verdict::Refused(refusal);
+    }
+    Verdict::Accepted
+}
 
 // 10 11, of an image of n bytes: the rules that all calls on an image begin with.
 fn of_image(shelf: Shelf, n: usize) -> Verdict
@@ -17,23 +30,19 @@ fn of_image(shelf: Shelf, n: usize) -> Verdict
     if !shelf.is_shelf() {
         return Verdict::Refused(Refusal::NotAShelf);
     }
-    if n != sizes::image_size(shelf) {
-        return Verdict::Refused(Refusal::OtherImage);
-    }
-    Verdict::Accepted
+    also(
+        Verdict::Accepted,
+        n == sizes::image_size(shelf),
+        Refusal::OtherImage,
+    )
 }
 
 // 12 13: a number that is to be below another, and a buffer of m bytes that is to have so many.
 fn of_span(at: usize, below: usize, m: usize, size: usize) -> Verdict
     ensures { λ r. ⌜ r ≡ firstBroken (spanRules at below m size) ⌝ }
 {
-    if below <= at {
-        return Verdict::Refused(Refusal::OutOfRange);
-    }
-    if m != size {
-        return Verdict::Refused(Refusal::OtherBuffer);
-    }
-    Verdict::Accepted
+    let ranged = also(Verdict::Accepted, at < below, Refusal::OutOfRange);
+    also(ranged, m == size, Refusal::OtherBuffer)
 }
 
 // 10 11 14, of an image of n bytes.
@@ -41,14 +50,8 @@ pub fn of_whole(shelf: Shelf, n: usize) -> Verdict
     ensures { λ r. ⌜ r ≡ firstBroken (wholeRules shelf n) ⌝ }
 {
     let verdict = of_image(shelf, n);
-    let Verdict::Accepted = verdict else {
-        return verdict;
-    };
     let loss = shelf.loss;
-    if !presence::is_whole(loss) {
-        return Verdict::Refused(Refusal::SomeLost);
-    }
-    Verdict::Accepted
+    also(verdict, presence::is_whole(loss), Refusal::SomeLost)
 }
 
 // 10 11 12 13, of an image of n bytes and a unit buffer of m.
@@ -82,17 +85,10 @@ pub fn of_stripe(shelf: Shelf, n: usize, stripe: usize, m: usize) -> Verdict
 pub fn of_lose(shelf: Shelf, disk: usize) -> Verdict
     ensures { λ r. ⌜ r ≡ firstBroken (loseRules shelf disk) ⌝ }
 {
-    if !shelf.is_shelf() {
-        return Verdict::Refused(Refusal::NotAShelf);
-    }
-    if shelf.v <= disk {
-        return Verdict::Refused(Refusal::OutOfRange);
-    }
     let loss = shelf.loss;
-    if !presence::is_whole(loss) {
-        return Verdict::Refused(Refusal::SomeLost);
-    }
-    Verdict::Accepted
+    let passed = also(Verdict::Accepted, shelf.is_shelf(), Refusal::NotAShelf);
+    let ranged = also(passed, disk < shelf.v, Refusal::OutOfRange);
+    also(ranged, presence::is_whole(loss), Refusal::SomeLost)
 }
 
 // 10 11 15, of an image of n bytes.
@@ -100,14 +96,8 @@ pub fn of_rebuild(shelf: Shelf, n: usize) -> Verdict
     ensures { λ r. ⌜ r ≡ firstBroken (rebuildRules shelf n) ⌝ }
 {
     let verdict = of_image(shelf, n);
-    let Verdict::Accepted = verdict else {
-        return verdict;
-    };
     let loss = shelf.loss;
-    if presence::is_whole(loss) {
-        return Verdict::Refused(Refusal::NoneLost);
-    }
-    Verdict::Accepted
+    also(verdict, !presence::is_whole(loss), Refusal::NoneLost)
 }
 
 // 10 11 12 14, of an image of n bytes.
@@ -118,15 +108,8 @@ pub fn of_place(shelf: Shelf, n: usize, disk: usize, offset: usize) -> Verdict
     let Verdict::Accepted = verdict else {
         return verdict;
     };
-    if shelf.v <= disk {
-        return Verdict::Refused(Refusal::OutOfRange);
-    }
-    if fast::offsets(shelf) <= offset {
-        return Verdict::Refused(Refusal::OutOfRange);
-    }
     let loss = shelf.loss;
-    if !presence::is_present(loss, disk) {
-        return Verdict::Refused(Refusal::SomeLost);
-    }
-    Verdict::Accepted
+    let there = also(verdict, disk < shelf.v, Refusal::OutOfRange);
+    let ranged = also(there, offset < fast::offsets(shelf), Refusal::OutOfRange);
+    also(ranged, presence::is_present(loss, disk), Refusal::SomeLost)
 }

@@ -1,10 +1,12 @@
 -- `parity::rules::of_image` meets its contract: rule after rule, in the order of their numbers. Assumes nothing.
-use mathlib.Core.Path.{_≡_, sym, _∙_}
+use mathlib.Core.Path.{_≡_, sym, ap, _∙_}
 use mathlib.Core.Bool.{true}
+use mathlib.Core.List.{[]}
+use lib.Dec.{eqb}
 use borrow.Author.Needs.{needs}
 use borrow.Author.Tests.{not-true, not-false}
 use Rattle.design.specs.Shelf.{isShelf}
-use Rattle.parity.proofs.Verdicts.{none-broken, broken-here, past, is-same, not-same}
+use Rattle.parity.proofs.Verdicts.{none-broken, broken-here, past, also-rule}
 use Rattle.parity.proofs.rules.of_image.Statement.{statement}
 use Rattle.parity.proofs.rules.of_image.Tie as tie
 
@@ -18,10 +20,7 @@ image-size-requires : tie.Need-image-size-requires
 image-size-requires c κs = shelf-kept c
 
 returns-2 : tie.Need-returns-2
-returns-2 c = past _ _ (shelf-kept (c .before .before)) (broken-here _ _ (not-same _ (c .before .image-size .ensures) (c .if2 .taken)))
-
-returns-3 : tie.Need-returns-3
-returns-3 c = past _ _ (shelf-kept (c .before .before)) (past _ _ (is-same _ (c .before .image-size .ensures) (c .if2 .left)) none-broken)
+returns-2 c = past _ _ (shelf-kept (c .before .before)) (c .also .ensures ∙ also-rule _ [] none-broken (λ _. ap (eqb _) (c .before .image-size .ensures)))
 
 pub of-image-spec : {M : Type 1} → statement M
-of-image-spec = tie.close (tie.spec (λ c κs. search needs) returns image-size-requires returns-2 returns-3)
+of-image-spec = tie.close (tie.spec (λ c κs. search needs) returns image-size-requires (λ c κs. search needs) returns-2)

@@ -12,15 +12,13 @@ use Rattle.parity.specs.Calls.{stripeRules}
 use Rattle.parity.specs.inner.Judged.{imageRules, spanRules}
 use Rattle.parity.proofs.Accepted.{rule-kept}
 use Rattle.parity.proofs.Sized.{stripe-size-most}
-use Rattle.parity.proofs.Verdicts.{past-all, broken-within}
+use Rattle.parity.proofs.Verdicts.{past-all, refused-already}
 use Rattle.parity.proofs.rules.of_stripe.Statement.{statement}
 use Rattle.parity.proofs.rules.of_stripe.Tie as tie
 
 returns : tie.Need-returns
 unfolding stripeRules
-returns c =
-    let judged = c .before .before .of-image .ensures in
-    judged ∙ broken-within _ (imageRules _ _) (sym judged ∙ c .enum-told2 .given .1)
+returns c = refused-already _ (imageRules _ _) (c .before .before .of-image .ensures) (c .enum-told2 .given .1)
 
 -- rules 10 and 11 are kept
 image-kept : (c : tie.After-enum-told) → firstBroken (imageRules (c .before .before .before .args .shelf) (c .before .before .before .args .n)) ≡ Accepted
