@@ -9,6 +9,7 @@ pub mod Reading
 pub mod Opening
 pub mod Packing
 pub mod Standing
+pub mod Writing
 pub mod Written
 pub mod RoundTrip
 pub mod WritingBack

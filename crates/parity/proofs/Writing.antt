@@ -1,18 +1,17 @@
--- A loop that writes the bytes s over part of a list, one in each turn, from the part's first byte on; and the bytes of an exclusive-or.
--- Assumes nothing.
+-- The bytes that a loop over a unit finds, and those of an exclusive-or; whether all are zero. Assumes nothing.
 use mathlib.Core.Path.{_≡_, refl, sym, ap, _∙_}
 use mathlib.Core.Logic.{_⊎_, inl, inr, ⊎-elim}
 use mathlib.Core.Bool.{_&&_}
-use mathlib.Core.List.{List, [], _∷_, append-nil}
+use mathlib.Core.List.{List, [], _∷_}
 use Prim.Native.Nat.{ℕ, zero, suc, _+_, _*_, _≤_, _<_}
-use native.Mathlib.Nat.{zero-add}
 use native.Mathlib.Numerals.{add-one}
 use native.Mathlib.Omega.{arith}
 use lib.Bits.{bitXor, bitOr, xor-zero-l, xor-zero-r, or-zero-l, or-add-and, and-le-r}
 use lib.Dec.{eqb}
-use lib.ListN.{length, getD, set, take, length-set}
-use lib.Seq.{paste, paste-zero, paste-suc, take-all, drop-length}
+use lib.ListN.{length, getD, take}
+use lib.Seq.{take-all}
 use borrow.Author.Tests.{eqb-true, eqb-false, ne-eqb}
+use Rattle.design.proofs.Writing.{Begun}
 use Rattle.parity.specs.Units.{unitAt, xorU, isZero}
 use Rattle.parity.proofs.Cases.{cases}
 use Rattle.parity.proofs.Put.{paste-outside, unit-byte, apart}
@@ -24,40 +23,10 @@ byte-xor (a ∷ x) [] i = sym (xor-zero-r (getD (a ∷ x) i 0))
 byte-xor (a ∷ x) (b ∷ y) zero = refl
 byte-xor (a ∷ x) (b ∷ y) (suc i) = byte-xor x y i
 
--- `now` is `was` with the first i of the n bytes s written from `at` on
-pub record Begun (was : List ℕ) (at : ℕ) (s : List ℕ) (n : ℕ) (now : List ℕ) (i : ℕ) : Type 0 where
-  pub size : length s ≡ n
-  pub room : at + n ≤ length was
-  pub most : i ≤ n
-  pub same : length now ≡ length was
-  pub is : now ≡ paste was at s i
-
-module _ (was : List ℕ) (at : ℕ) (s : List ℕ) (n : ℕ) where
-  pub begun-none : length s ≡ n → at + n ≤ length was → Begun was at s n was 0
-  begun-none size room = record { size = size; room = room; most = omega arith; same = refl; is = paste-zero was at s }
-
-  module _ (now : List ℕ) (i : ℕ) (b : Begun was at s n now i) where
-    pub begun-next : (p x : ℕ) → i < n → p ≡ at + i → x ≡ getD s i 0 → Begun was at s n (set now p x) (i + 1)
-    begun-next p x l q e =
-        record {
-          size = b .size;
-          room = b .room;
-          most = omega arith;
-          same = length-set now p x ∙ b .same;
-          is = rw (b .is, q, e, add-one) (paste-suc was at s i 0 (omega arith) (omega arith));
-        }
-
-    -- what stands before the part, and what the loop has not reached, is as it was
-    pub begun-rest : (j : ℕ) → (j < at) ⊎ (at + i ≤ j) → getD now j 0 ≡ getD was j 0
-    begun-rest j h = ap (λ (l : List ℕ). getD l j 0) (b .is) ∙ paste-outside was at s i (omega arith) (omega arith) j h
-
-    pub begun-all : n ≤ i → now ≡ paste was at s n
-    begun-all l = let all : i ≡ n = omega arith in b .is ∙ ap (paste was at s) all
-
--- the whole of a list written
-pub begun-whole : (was s now : List ℕ) (i : ℕ) → Begun was 0 s (length was) now i → length was ≤ i → now ≡ s
-begun-whole was s now i b l =
-    begun-all was 0 s (length was) now i b l ∙ rw (zero-add, drop-length) (append-nil (take (length was) s) ∙ take-all (length was) s (omega arith))
+-- what stands before the part, and what the loop has not reached, is as it was
+pub begun-rest : (was : List ℕ) (at : ℕ) (s : List ℕ) (n : ℕ) (now : List ℕ) (i : ℕ) → Begun was at s n now i
+    → (j : ℕ) → (j < at) ⊎ (at + i ≤ j) → getD now j 0 ≡ getD was j 0
+begun-rest was at s n now i b j h = ap (λ (l : List ℕ). getD l j 0) (b .is) ∙ paste-outside was at s i (omega arith) (omega arith) j h
 
 -- a loop over unit `to` that has come to byte i: that byte of any unit is as it was
 pub byte-unread : (U : ℕ) (was : List ℕ) (to : ℕ) (s now : List ℕ) (i : ℕ) → Begun was (to * U) s U now i → i < U → (m : ℕ)

@@ -1,51 +1,33 @@
--- `design::back::clear` meets its contract. The loop's invariant: the bytes passed are zero. The measure is what is left of the
--- length. Assumes nothing.
-use mathlib.Core.Path.{_≡_, refl, sym, ap, _∙_}
-use Prim.Native.Nat.{_-_, _≤_, _<_}
+-- `design::back::clear` meets its contract. The loop's invariant: the bytes before i are zero, and the others as they were.
+-- Assumes nothing.
+use mathlib.Core.Path.{sym}
+use Prim.Native.Nat.{_-_}
+use native.Mathlib.Nat.{zero-add}
 use native.Mathlib.Omega.{arith}
-use native.Mathlib.Numerals.{add-one}
-use lib.ListN.{length, take, replicate, length-set, replicate-append-replicate}
-use lib.Seq.{take-all, take-suc-set}
+use lib.ListN.{length, replicate, length-replicate, getD-replicate}
+use Rattle.design.proofs.Writing.{Begun, begun-none, begun-next, begun-whole}
 use Rattle.design.proofs.back.clear.Statement.{statement}
 use Rattle.design.proofs.back.clear.Tie as tie
 
 abbrev Inv-loop : tie.InvT-loop
-Inv-loop bytes₀ i₀ i-end bytes i = (i ≤ length bytes₀) × (length bytes ≡ length bytes₀) × (take i bytes ≡ replicate i 0)
+Inv-loop bytes₀ i₀ i-end bytes i = Begun bytes₀ 0 (replicate (length bytes₀) 0) (length bytes₀) bytes i
 
 abbrev μ-loop : tie.MeasureT-loop
 μ-loop bytes₀ i₀ i-end bytes i = length bytes₀ - i
 
 loop-holds : tie.Need-loop-holds Inv-loop μ-loop
-loop-holds c = (omega arith, refl, refl)
+loop-holds c = begun-none _ _ _ _ (length-replicate _ _) (omega arith)
 
 loop-again : tie.Need-loop-again Inv-loop μ-loop
-loop-again c =
-    let l = c .before .loop in
-    let h : l .i < length (l .bytes) = omega arith in (
-      omega arith,
-      length-set (l .bytes) (l .i) 0 ∙ l .inv .1,
-      rw (add-one, take-suc-set (l .bytes) (l .i) 0, l .inv .2) (replicate-append-replicate (l .i) 1 0 ∙ ap (λ n. replicate n 0) (add-one (l .i))),
-    )
+loop-again c = begun-next _ _ _ _ _ _ (c .before .loop .inv) _ _ (c .loop-test .taken) (sym (zero-add _)) (sym (getD-replicate _ _ _ _ (c .loop-test .taken)))
 
 same-length : tie.Need-same-length Inv-loop μ-loop
-same-length c = c .before .loop .inv .1
+same-length c = c .before .loop .inv .same
 
 returns : tie.Need-returns Inv-loop μ-loop
-returns c =
-    let l = c .before .loop in
-    let e : l .i ≡ length (c .before .before .args .bytes .now) = omega arith in
-    sym (take-all (l .i) (l .bytes) (omega arith)) ∙ l .inv .2 ∙ ap (λ n. replicate n 0) e
+returns c = begun-whole _ _ _ _ (c .before .loop .inv) (c .loop-test .left)
 
 pub clear-spec : {M : Type 1} → statement M
 clear-spec =
     tie.close
-    (tie.spec
-    Inv-loop
-    μ-loop
-    loop-holds
-    (λ c. omega arith)
-    (λ c. omega arith)
-    (λ c. omega arith)
-    loop-again
-    same-length
-    returns)
+    (tie.spec Inv-loop μ-loop loop-holds (λ c. omega arith) (λ c. omega arith) (λ c. omega arith) loop-again same-length returns)

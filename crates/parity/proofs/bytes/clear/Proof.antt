@@ -5,8 +5,8 @@ use Prim.Native.Nat.{_-_}
 use native.Mathlib.Nat.{zero-add}
 use native.Mathlib.Omega.{arith}
 use lib.ListN.{length, length-replicate, getD-replicate}
+use Rattle.design.proofs.Writing.{Begun, begun-none, begun-next, begun-whole}
 use Rattle.parity.specs.Units.{zeros}
-use Rattle.parity.proofs.Writing.{Begun, begun-none, begun-next, begun-whole}
 use Rattle.parity.proofs.bytes.clear.Statement.{statement}
 use Rattle.parity.proofs.bytes.clear.Tie as tie
 

@@ -4,7 +4,7 @@ use Prim.Native.Nat.{_-_}
 use native.Mathlib.Nat.{zero-add}
 use native.Mathlib.Omega.{arith}
 use lib.ListN.{length}
-use Rattle.parity.proofs.Writing.{Begun, begun-none, begun-next, begun-whole}
+use Rattle.design.proofs.Writing.{Begun, begun-none, begun-next, begun-whole}
 use Rattle.parity.proofs.bytes.copy.Statement.{statement}
 use Rattle.parity.proofs.bytes.copy.Tie as tie
 

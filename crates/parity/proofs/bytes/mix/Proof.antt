@@ -7,9 +7,10 @@ use native.Mathlib.Nat.{zero-add}
 use native.Mathlib.Omega.{arith}
 use lib.Bits.{bitXor}
 use lib.ListN.{length, getD}
+use Rattle.design.proofs.Writing.{Begun, begun-none, begun-next, begun-whole}
 use Rattle.parity.specs.Units.{xorU}
 use Rattle.parity.proofs.Xor.{xorU-length}
-use Rattle.parity.proofs.Writing.{Begun, begun-none, begun-next, begun-rest, begun-whole, byte-xor}
+use Rattle.parity.proofs.Writing.{begun-rest, byte-xor}
 use Rattle.parity.proofs.bytes.mix.Statement.{statement}
 use Rattle.parity.proofs.bytes.mix.Tie as tie
 

@@ -5,11 +5,12 @@ use mathlib.Core.List.{List}
 use Prim.Native.Nat.{ℕ, _-_, _*_}
 use native.Mathlib.Omega.{arith}
 use lib.Bits.{bitXor}
+use Rattle.design.proofs.Writing.{Begun, begun-none, begun-next, begun-all}
 use Rattle.parity.specs.Units.{unitAt, xorU}
 use Rattle.parity.specs.inner.Stores.{putUnit}
 use Rattle.parity.proofs.Xor.{xorU-length}
 use Rattle.parity.proofs.Put.{unit-size}
-use Rattle.parity.proofs.Writing.{Begun, begun-none, begun-next, begun-all, byte-xor, byte-unread}
+use Rattle.parity.proofs.Writing.{byte-xor, byte-unread}
 use Rattle.parity.proofs.units.join.Statement.{statement}
 use Rattle.parity.proofs.units.join.Tie as tie
 
