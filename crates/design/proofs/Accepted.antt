@@ -18,8 +18,10 @@ use Rattle.design.specs.Refusals.{number, firstBroken}
 use Rattle.design.specs.Tuples.{Design, before, shared, Balanced, disksBelow, noneTwice, disksEven, pairsEven}
 use Rattle.design.specs.Sheet.{editionOf, vOf, kOf, bOf, TOf, uOf, designOf, sheetLength, withinLimits, fillingZero, sheetRules, opened, shelfOf, WellFormed}
 use Rattle.design.proofs.Counting.{decided, every-at, every-of}
-use Rattle.design.proofs.Tests.{limits, twice, disks-even, pairs-even}
-use Rattle.design.proofs.Refused.{keptOf, sheet-rise, accepts-exactly, opened-verdict, accepted-shelf}
+use Rattle.design.proofs.Tests.{limits, disks-even, pairs-even}
+use Rattle.design.proofs.Twice.{twice}
+use Rattle.design.proofs.Lowest.{keptOf, accepts-exactly}
+use Rattle.design.proofs.Refused.{sheet-rise, opened-verdict, accepted-shelf}
 use Rattle.design.proofs.Design.{DisksBelow, shared-sym, places, spread}
 
 -- ---- the rules in words; numbers 3, 6 and 8 are in Tests

@@ -1,7 +1,10 @@
 pub mod Counting
 pub mod Sums
 pub mod Tests
+pub mod Twice
+pub mod ShelfTests
 pub mod Tallies
+pub mod Lowest
 pub mod Refused
 pub mod Design
 pub mod Accepted

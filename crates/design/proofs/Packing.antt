@@ -15,7 +15,8 @@ use lib.ListN.{length, getD, take, drop, replicate, length-map}
 use lib.Seq.{take-suc, length-take-le}
 use Rattle.fields.specs.Field.{withField, Wrote}
 use Rattle.fields.specs.declared.Stored.{Stored}
-use Rattle.fields.proofs.Laws.{Inside, length-withField, wrote-done}
+use Rattle.fields.proofs.Writes.{Inside, length-withField}
+use Rattle.fields.proofs.Laws.{wrote-done}
 use Rattle.design.specs.declared.Shelf.{Shelf}
 use Rattle.design.specs.declared.WriteBack.the-variants as WriteBack
 use Rattle.design.specs.declared.Refusal.the-variants.{NotAShelf, OtherBuffer}

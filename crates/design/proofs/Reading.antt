@@ -13,7 +13,7 @@ use borrow.Author.Tests.{lt-ltb, le-ltb, ltb-true, eqb-true, eqb-false}
 use Rattle.fields.specs.Field.{field}
 use Rattle.fields.specs.declared.Found.{Found}
 use Rattle.fields.specs.declared.Found.the-variants.{Value, NoField}
-use Rattle.fields.proofs.Laws.{field-lt}
+use Rattle.fields.proofs.Writes.{field-lt}
 use Rattle.design.specs.Sheet.{tableSize, numberOf, tableOf}
 use Rattle.design.proofs.Counting.{decided, alike, length-listFrom, getD-listFrom}
 

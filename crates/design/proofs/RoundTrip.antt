@@ -10,7 +10,7 @@ use lib.Dec.{ltb}
 use lib.ListN.{length, getD}
 use lib.Seq.{getD-take}
 use borrow.Author.Tests.{ltb-true, ltb-false, le-leb, eq-eqb}
-use Rattle.fields.proofs.Laws.{IsBytes}
+use Rattle.fields.proofs.Writes.{IsBytes}
 use Rattle.design.specs.declared.Loss.the-variants.{Nothing}
 use Rattle.design.specs.declared.Opened.{Opened}
 use Rattle.design.specs.declared.Refusal.{Refusal}
@@ -22,7 +22,9 @@ use Rattle.design.specs.Shelf.{designIn, lossBelow, isShelf, headerIn, s
 use Rattle.design.proofs.Counting.{decided, fails}
 use Rattle.design.proofs.Reading.{filled-table, table-inside, table-past, length-table}
 use Rattle.design.proofs.Opening.{readDesign, shelf-read, accepted}
-use Rattle.design.proofs.Tests.{limits, below-at, below-of, twice, disks-even, pairs-even, IsShelf, shelf-parts, shelf-whole}
+use Rattle.design.proofs.Tests.{limits, below-at, below-of, disks-even, pairs-even}
+use Rattle.design.proofs.Twice.{twice}
+use Rattle.design.proofs.ShelfTests.{IsShelf, shelf-parts, shelf-whole}
 use Rattle.design.proofs.Refused.{accepted-shelf, refused-empty}
 use Rattle.design.proofs.Accepted.{disks-below, filling-zero, accepted-well-formed, balanced-as-counted}
 use Rattle.design.proofs.Standing.{numbers-standing, standing-numbers}

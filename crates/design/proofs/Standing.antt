@@ -9,7 +9,8 @@ use lib.Dec.{ltb}
 use lib.ListN.{length, getD}
 use borrow.Author.Tests.{ltb-true, ltb-false}
 use Rattle.fields.specs.Field.{bitAt, field, withField}
-use Rattle.fields.proofs.Laws.{IsBytes, length-withField, bytes-withField, bit-out, field-in, field-bit, field-ext}
+use Rattle.fields.proofs.Writes.{IsBytes, length-withField, bytes-withField, bit-out}
+use Rattle.fields.proofs.Laws.{field-in, field-bit, field-ext}
 use Rattle.design.specs.Shelf.{Piece, packed, numbersIn}
 use Rattle.design.proofs.Counting.{decided}
 use Rattle.design.proofs.Packing.{bitsOf}

@@ -17,7 +17,8 @@ use Rattle.design.specs.declared.WriteBack.the-variants as WriteBack
 use Rattle.design.specs.Refusals.{number, firstBroken}
 use Rattle.design.specs.Sheet.{sheetLength, tableSize, opened}
 use Rattle.design.specs.Shelf.{isShelf, sheetIn, backRules, backAnswer, backBuffer, WroteBack}
-use Rattle.design.proofs.Refused.{keptOf, accepts-exactly, back-rise}
+use Rattle.design.proofs.Lowest.{keptOf, accepts-exactly}
+use Rattle.design.proofs.Refused.{back-rise}
 use Rattle.design.proofs.Written.{length-sheet}
 use Rattle.design.proofs.RoundTrip.{whole, written-opens}
 

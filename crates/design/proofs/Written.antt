@@ -12,13 +12,14 @@ use lib.Seq.{length-take-le, getD-take}
 use borrow.Author.Tests.{ltb-true, ltb-false}
 use Rattle.fields.specs.Field.{bitAt}
 use Rattle.fields.proofs.Bits.{zero-bit}
-use Rattle.fields.proofs.Laws.{IsBytes, ext-bits}
+use Rattle.fields.proofs.Writes.{IsBytes}
+use Rattle.fields.proofs.Laws.{ext-bits}
 use Rattle.design.specs.declared.Shelf.{Shelf}
 use Rattle.design.specs.Sheet.{sheetLength, tableSize}
 use Rattle.design.specs.Shelf.{Piece, headerIn, numbersIn, sheetIn}
 use Rattle.design.proofs.Counting.{decided}
 use Rattle.design.proofs.Reading.{getD-zeros}
-use Rattle.design.proofs.Tests.{IsShelf}
+use Rattle.design.proofs.ShelfTests.{IsShelf}
 use Rattle.design.proofs.Packing.{bitsOf, length-packed, bits-numbers}
 use Rattle.design.proofs.Standing.{Standing, Fitting, bytes-packed, packed-out, packed-stands, standing-bits, numbers-fit}
 

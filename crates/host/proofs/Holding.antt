@@ -10,7 +10,7 @@ use borrow.Author.Tests.{le-leb, lt-leb, leb-true, leb-false, eq-eqb, ne-eqb, eq
 use Rattle.design.specs.declared.Shelf.{Shelf}
 use Rattle.design.specs.Sheet.{emptyShelf}
 use Rattle.design.specs.Shelf.{isShelf}
-use Rattle.design.proofs.Tests.{shelf-parts}
+use Rattle.design.proofs.ShelfTests.{shelf-parts}
 use Rattle.parity.proofs.Cases.{cases}
 use Rattle.host.specs.Numbers.{numberAt}
 use Rattle.host.specs.Value.{lossOf, isValue, shelfIn}

@@ -15,7 +15,7 @@ use Rattle.design.specs.declared.Shelf.{Shelf}
 use Rattle.design.specs.Tuples.{holds, shared}
 use Rattle.design.specs.Shelf.{designIn, lossBelow, isShelf}
 use Rattle.design.proofs.Counting.{count-le}
-use Rattle.design.proofs.Tests.{shelf-parts}
+use Rattle.design.proofs.ShelfTests.{shelf-parts}
 use Rattle.placement.proofs.Bounds.{often-most}
 use Rattle.host.specs.Numbers.{numberAt, numbered}
 use Rattle.host.specs.Value.{lossNumber, lossOf, shelfIn, numbersIn, withShelf}

@@ -12,7 +12,7 @@ use Rattle.design.specs.declared.Shelf.{Shelf}
 use Rattle.design.specs.Tuples.{holds, shared}
 use Rattle.design.specs.Shelf.{designIn, isShelf}
 use Rattle.design.proofs.Counting.{count-le}
-use Rattle.design.proofs.Tests.{shelf-parts}
+use Rattle.design.proofs.ShelfTests.{shelf-parts}
 use Rattle.placement.specs.Layout.{layoutIn, stripes, diskOf, offsetOf, placeOf, parityOf, positionOf}
 use Rattle.placement.proofs.Bounds.{bounds, often-most}
 use Rattle.placement.proofs.Even.{even-shelf}

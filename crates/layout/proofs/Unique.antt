@@ -11,7 +11,7 @@ use Rattle.design.specs.declared.Shelf.{Shelf}
 use Rattle.design.specs.declared.Verdict.{Verdict}
 use Rattle.design.specs.declared.Verdict.the-variants.{Accepted, Refused}
 use Rattle.design.specs.Refusals.{Rule, number, firstBroken}
-use Rattle.design.proofs.Refused.{rising}
+use Rattle.design.proofs.Lowest.{rising}
 use Rattle.layout.specs.declared.Start.{Start}
 use Rattle.layout.specs.declared.Text.{Text}
 use Rattle.layout.specs.declared.Text.the-variants as Text

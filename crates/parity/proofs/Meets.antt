@@ -9,7 +9,7 @@ use Rattle.design.specs.declared.Loss.the-variants.{Disk}
 use Rattle.design.specs.declared.Shelf.{Shelf}
 use Rattle.design.specs.Count.{nth}
 use Rattle.design.specs.Shelf.{lossBelow, isShelf}
-use Rattle.design.proofs.Tests.{shelf-parts}
+use Rattle.design.proofs.ShelfTests.{shelf-parts}
 use Rattle.placement.specs.Layout.{layoutIn, tuples, stripes, tupleOf, diskOf}
 use Rattle.placement.proofs.Held.{holds-disk, held-at}
 use Rattle.parity.specs.Stripe.{unitIn, diskAt, present, positionIn}

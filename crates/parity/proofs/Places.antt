@@ -7,7 +7,7 @@ use native.Mathlib.Omega.{arith}
 use lib.ListN.{length}
 use Rattle.design.specs.declared.Shelf.{Shelf}
 use Rattle.design.specs.Shelf.{isShelf}
-use Rattle.design.proofs.Tests.{shelf-parts}
+use Rattle.design.proofs.ShelfTests.{shelf-parts}
 use Rattle.placement.specs.Layout.{layoutIn, stripes}
 use Rattle.placement.proofs.Bounds.{often-most, bounds}
 use Rattle.parity.specs.Units.{zeros, unitAt, xorSum, put}

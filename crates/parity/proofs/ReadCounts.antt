@@ -16,7 +16,7 @@ use Rattle.design.specs.declared.Shelf.{Shelf}
 use Rattle.design.specs.Count.{listFrom}
 use Rattle.design.specs.Shelf.{isShelf}
 use Rattle.design.proofs.Counting.{count-le, length-listFrom, getD-listFrom}
-use Rattle.design.proofs.Tests.{shelf-parts}
+use Rattle.design.proofs.ShelfTests.{shelf-parts}
 use Rattle.placement.specs.Layout.{layoutIn, stripes}
 use Rattle.placement.proofs.Bounds.{bounds}
 use Rattle.placement.proofs.Shares.{stripeHolds, pair-stripes}

@@ -7,7 +7,7 @@ use lib.Arith.{digits-div}
 use lib.ListN.{getD}
 use Rattle.design.specs.declared.Shelf.{Shelf}
 use Rattle.design.specs.Shelf.{isShelf}
-use Rattle.design.proofs.Tests.{shelf-parts}
+use Rattle.design.proofs.ShelfTests.{shelf-parts}
 use Rattle.parity.specs.Stripe.{depth, presentOn, present}
 
 -- the table's entries can be ranked

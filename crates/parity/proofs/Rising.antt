@@ -4,7 +4,7 @@ use mathlib.Core.Bool.{true}
 use Prim.Native.Nat.{ℕ}
 use Rattle.design.specs.declared.Shelf.{Shelf}
 use Rattle.design.specs.Refusals.{number}
-use Rattle.design.proofs.Refused.{rising}
+use Rattle.design.proofs.Lowest.{rising}
 use Rattle.parity.specs.Calls.{wholeRules, unitRules, stripeRules, loseRules, rebuildRules, placeRules}
 
 module _ (h : Shelf) (n : ℕ) where

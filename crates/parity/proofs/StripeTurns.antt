@@ -13,7 +13,7 @@ use borrow.Author.Tests.{eq-eqb, ne-eqb}
 use Rattle.design.specs.declared.Shelf.{Shelf}
 use Rattle.design.specs.Count.{count}
 use Rattle.design.proofs.Counting.{count-true, count-false, count-le}
-use Rattle.design.proofs.Tests.{shelf-parts}
+use Rattle.design.proofs.ShelfTests.{shelf-parts}
 use Rattle.placement.specs.Layout.{layoutIn, stripes}
 use Rattle.parity.specs.declared.Shape.{Shape}
 use Rattle.parity.specs.Units.{unitAt, xorSum}

@@ -10,7 +10,7 @@ use Rattle.design.specs.declared.Loss.{Loss}
 use Rattle.design.specs.declared.Loss.the-variants.{Nothing, Disk}
 use Rattle.design.specs.declared.Shelf.{Shelf}
 use Rattle.design.specs.Shelf.{lossBelow, isShelf}
-use Rattle.design.proofs.Tests.{shelf-parts, shelf-whole}
+use Rattle.design.proofs.ShelfTests.{shelf-parts, shelf-whole}
 use Rattle.parity.specs.Units.{unitAt}
 use Rattle.parity.specs.Stripe.{unitSize, units, imageSize, unitIn, present, cell}
 use Rattle.parity.specs.Calls.{withLoss, rebuiltImage}

@@ -6,11 +6,13 @@ use mathlib.Core.List.{List, [], _∷_}
 use Prim.Native.Nat.{ℕ, zero, suc, _+_, _*_, _≤_, _<_}
 use native.Mathlib.Numerals.{add-one}
 use native.Mathlib.Omega.{arith}
-use lib.Bits.{bitXor, bitOr, xor-zero-l, xor-zero-r, or-zero-l, or-add-and, and-le-r}
+use lib.Bits.{bitXor, bitOr, xor-zero-l, xor-zero-r}
 use lib.Dec.{eqb}
 use lib.ListN.{length, getD, take}
 use lib.Seq.{take-all}
-use borrow.Author.Tests.{eqb-true, eqb-false, ne-eqb}
+use borrow.Author.Tests.{eq-eqb, eqb-true, eqb-false}
+use Rattle.design.proofs.Counting.{both, both-of, alike}
+use Rattle.design.proofs.ShelfTests.{or-zero}
 use Rattle.design.proofs.Writing.{Begun}
 use Rattle.parity.specs.Units.{unitAt, xorU, isZero}
 use Rattle.parity.proofs.Cases.{cases}
@@ -40,11 +42,11 @@ byte-unread U was to s now i b l m =
 
 -- ---- all zeros
 
-or-zero : (a b : ℕ) → eqb (bitOr a b) 0 ≡ eqb a 0 && eqb b 0
-or-zero a b =
-    cases (eqb a 0)
-    (λ e. rw (e, eqb-true a 0 e, or-zero-l b))
-    (λ e. rw e (ne-eqb (bitOr a b) 0 (λ z. eqb-false a 0 e (omega (arith, or-add-and a b, and-le-r a b)))))
+or-zero-test : (a b : ℕ) → eqb (bitOr a b) 0 ≡ eqb a 0 && eqb b 0
+or-zero-test a b =
+    alike (eqb (bitOr a b) 0) (eqb a 0 && eqb b 0)
+    (λ t. let zero = or-zero a b .0 (eqb-true (bitOr a b) 0 t) in both-of (eq-eqb a 0 (zero .0)) (eq-eqb b 0 (zero .1)))
+    (λ t. let zero = both (eqb a 0) (eqb b 0) t in eq-eqb (bitOr a b) 0 (or-zero a b .1 (eqb-true a 0 (zero .0), eqb-true b 0 (zero .1))))
 
 take-zero : (x : List ℕ) (i : ℕ) → i < length x → isZero (take (suc i) x) ≡ isZero (take i x) && eqb (getD x i 0) 0
 unfolding isZero
@@ -54,7 +56,7 @@ take-zero (a ∷ x) (suc i) l = cases (eqb a 0) (λ e. rw e (take-zero x i (omeg
 
 -- `any` is zero exactly when the first i bytes are
 pub zero-next : (x : List ℕ) (any i : ℕ) → i < length x → eqb any 0 ≡ isZero (take i x) → eqb (bitOr any (getD x i 0)) 0 ≡ isZero (take (i + 1) x)
-zero-next x any i l e = rw (add-one, take-zero x i l, ← e) (or-zero any (getD x i 0))
+zero-next x any i l e = rw (add-one, take-zero x i l, ← e) (or-zero-test any (getD x i 0))
 
 pub zero-all : (x : List ℕ) (any i : ℕ) → length x ≤ i → eqb any 0 ≡ isZero (take i x) → eqb any 0 ≡ isZero x
 zero-all x any i l e = e ∙ ap isZero (take-all i x l)

@@ -15,7 +15,7 @@ use Rattle.design.specs.declared.Verdict.the-variants.{Accepted, Refused}
 use Rattle.design.specs.Refusals.{number, firstBroken}
 use Rattle.design.specs.Shelf.{isShelf, shelfRule}
 use Rattle.design.proofs.Counting.{decided, both, both-of, fails}
-use Rattle.design.proofs.Refused.{rising}
+use Rattle.design.proofs.Lowest.{rising}
 use Rattle.placement.specs.declared.Spot.{Spot}
 use Rattle.placement.specs.declared.Placing.the-variants as Placing
 use Rattle.placement.specs.declared.LookUp.{LookUp}

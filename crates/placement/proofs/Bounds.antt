@@ -8,7 +8,7 @@ use Rattle.design.specs.declared.Shelf.{Shelf}
 use Rattle.design.specs.Tuples.{holds, before}
 use Rattle.design.specs.Shelf.{designIn, isShelf}
 use Rattle.design.proofs.Counting.{count-le}
-use Rattle.design.proofs.Tests.{shelf-parts}
+use Rattle.design.proofs.ShelfTests.{shelf-parts}
 use Rattle.placement.specs.Layout.{layoutIn, stripes, addresses, offsets}
 
 pub record Bounds (h : Shelf) : Type 0 where

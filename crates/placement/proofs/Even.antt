@@ -8,7 +8,7 @@ use Rattle.design.specs.declared.Shelf.{Shelf}
 use Rattle.design.specs.Tuples.{Different, holds, before}
 use Rattle.design.specs.Shelf.{designIn, isShelf}
 use Rattle.design.proofs.Counting.{count-lt}
-use Rattle.design.proofs.Tests.{shelf-parts}
+use Rattle.design.proofs.ShelfTests.{shelf-parts}
 use Rattle.placement.specs.Layout.{Layout, tuples, layoutIn}
 use Rattle.placement.proofs.Held.{holds-disk}
 

@@ -14,7 +14,7 @@ use Rattle.design.specs.Tuples.{holds, before, shared}
 use Rattle.design.specs.Shelf.{designIn, isShelf}
 use Rattle.design.proofs.Counting.{decided, count-ext}
 use Rattle.design.proofs.Design.{shared-sym}
-use Rattle.design.proofs.Tests.{shelf-parts}
+use Rattle.design.proofs.ShelfTests.{shelf-parts}
 use Rattle.placement.specs.Layout.{Layout, tuples, layoutIn, stripes, offsets, stripeOf, tupleOf, diskOf, offsetOf, tupleAt, stripeAt}
 use Rattle.placement.proofs.Even.{Even, even-shelf}
 use Rattle.placement.proofs.Row.{tuple-row, offset-row, disk-lt}

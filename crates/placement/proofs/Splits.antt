@@ -7,7 +7,7 @@ use native.Mathlib.Omega.{arith}
 use lib.Arith.{digits-lt}
 use Rattle.design.specs.declared.Shelf.{Shelf}
 use Rattle.design.specs.Shelf.{isShelf}
-use Rattle.design.proofs.Tests.{shelf-parts}
+use Rattle.design.proofs.ShelfTests.{shelf-parts}
 use Rattle.placement.specs.declared.fast.Split.{Split}
 use Rattle.placement.specs.declared.fast.Place.{Place}
 use Rattle.placement.specs.Layout.{Layout, layoutIn, stripes, offsets, parityOf, splitOf, SplitIn, offsetOf, placeIn, placeOf}

@@ -14,7 +14,8 @@ use Rattle.design.specs.Tuples.{holds, before, shared}
 use Rattle.design.specs.Shelf.{designIn, isShelf}
 use Rattle.design.proofs.Accepted.{pairs-alike}
 use Rattle.design.proofs.Counting.{alike, both, both-of, count-ext}
-use Rattle.design.proofs.Tests.{pairs-even, shelf-parts}
+use Rattle.design.proofs.Tests.{pairs-even}
+use Rattle.design.proofs.ShelfTests.{shelf-parts}
 use Rattle.placement.specs.Layout.{Layout, layoutIn, tuples, fullTableOf, copyOf, tupleAt, stripeAt}
 use Rattle.placement.proofs.Even.{Even, even-shelf}
 use Rattle.placement.proofs.Row.{copy-lt, row}

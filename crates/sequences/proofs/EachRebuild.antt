@@ -12,7 +12,7 @@ use borrow.Author.Tests.{lt-ltb, le-ltb, eq-eqb, ne-eqb}
 use Rattle.design.specs.declared.Loss.the-variants.{Nothing, Disk}
 use Rattle.design.specs.declared.Verdict.the-variants.{Accepted}
 use Rattle.design.specs.Count.{count}
-use Rattle.design.proofs.Tests.{shelf-parts}
+use Rattle.design.proofs.ShelfTests.{shelf-parts}
 use Rattle.design.proofs.RoundTrip.{opened-is-shelf}
 use Rattle.placement.specs.Layout.{layoutIn, stripes}
 use Rattle.parity.specs.declared.Rebuilding.{Rebuilding}

@@ -10,7 +10,8 @@ use denote.Ref.{now}
 use Rattle.fields.specs.Field.{field, bitAt, found}
 use Rattle.fields.specs.declared.Found.the-variants as Found
 use Rattle.fields.proofs.Bits.{byte-of, place-of}
-use Rattle.fields.proofs.Laws.{Inside, field-fits, isField-iff, found-value}
+use Rattle.fields.proofs.Writes.{Inside, field-fits}
+use Rattle.fields.proofs.Laws.{isField-iff, found-value}
 use Rattle.fields.proofs.read.Statement.{statement}
 use Rattle.fields.proofs.read.Tie as tie
 

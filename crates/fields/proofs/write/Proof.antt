@@ -15,7 +15,8 @@ use lib.Pow.{pow-pos, shr-shr}
 use Rattle.fields.specs.declared.Stored.the-variants as Stored
 use Rattle.fields.specs.Field.{bitAt, withBit, withField, isField, takes, Wrote}
 use Rattle.fields.proofs.Bits.{putBit, byte-of, place-of}
-use Rattle.fields.proofs.Laws.{Inside, length-withField, isField-iff, takes-true}
+use Rattle.fields.proofs.Writes.{Inside, length-withField}
+use Rattle.fields.proofs.Laws.{isField-iff, takes-true}
 use Rattle.fields.proofs.write.Statement.{statement}
 use Rattle.fields.proofs.write.Tie as tie
 

@@ -8,7 +8,7 @@ use borrow.Author.Tests.{not-true, not-false}
 use lib.ListN.{length, take}
 use lib.Seq.{length-take-le}
 use Rattle.design.specs.Shelf.{isShelf}
-use Rattle.design.proofs.Tests.{shelf-parts}
+use Rattle.design.proofs.ShelfTests.{shelf-parts}
 use Rattle.design.proofs.Packing.{back-not-a-shelf, back-other-buffer, back-written}
 use Rattle.design.proofs.back.write_back.Statement.{statement}
 use Rattle.design.proofs.back.write_back.Tie as tie

@@ -7,7 +7,7 @@ use native.Mathlib.Omega.{arith}
 use borrow.Author.Needs.{needs}
 use lib.ListN.{length}
 use Rattle.design.specs.Shelf.{headerIn}
-use Rattle.design.proofs.Tests.{shelf-parts}
+use Rattle.design.proofs.ShelfTests.{shelf-parts}
 use Rattle.design.proofs.Packing.{bitsOf, packed-none, packed-wrote}
 use Rattle.design.proofs.back.write_header.Statement.{statement}
 use Rattle.design.proofs.back.write_header.Tie as tie

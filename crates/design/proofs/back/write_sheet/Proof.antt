@@ -8,7 +8,7 @@ use borrow.Author.Needs.{needs}
 use lib.ListN.{take, replicate}
 use Rattle.design.specs.Sheet.{sheetLength}
 use Rattle.design.specs.Shelf.{packed, headerIn, numbersIn}
-use Rattle.design.proofs.Tests.{shelf-parts}
+use Rattle.design.proofs.ShelfTests.{shelf-parts}
 use Rattle.design.proofs.Packing.{sheet-packed, table-length}
 use Rattle.design.proofs.back.write_sheet.Statement.{statement}
 use Rattle.design.proofs.back.write_sheet.Tie as tie

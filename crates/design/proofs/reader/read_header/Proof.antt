@@ -50,7 +50,8 @@ use denote.Triple.Table.{entered, cited}
 use denote.Triple.Walked.{says, needs, Stays, stay-none-slice, walkOf, goes-none-slice, Walks, ends-at, walked, walk-meets}
 use denote.Exit.{yes}
 use Rattle.fields.specs.Field.{field, isField}
-use Rattle.fields.proofs.Laws.{isField-iff, field-fits}
+use Rattle.fields.proofs.Writes.{field-fits}
+use Rattle.fields.proofs.Laws.{isField-iff}
 use Rattle.design.specs.declared.reader.Reader.{Reader}
 use Rattle.design.specs.declared.reader.Header.{Header}
 use Rattle.design.specs.Sheet.{editionOf, vOf, kOf, bOf, TOf, uOf}

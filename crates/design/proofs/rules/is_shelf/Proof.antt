@@ -12,7 +12,9 @@ use Rattle.design.specs.declared.Shelf.{Shelf}
 use Rattle.design.specs.Tuples.{disksBelow, noneTwice, disksEven, pairsEven}
 use Rattle.design.specs.Sheet.{withinLimits, Limits}
 use Rattle.design.specs.Shelf.{designIn, isShelf}
-use Rattle.design.proofs.Tests.{limits, below-flat, below-at, twice, none-twice-any, shelfTests, shelf-fails}
+use Rattle.design.proofs.Tests.{limits, below-flat, below-at}
+use Rattle.design.proofs.Twice.{twice, none-twice-any}
+use Rattle.design.proofs.ShelfTests.{shelfTests, shelf-fails}
 use Rattle.design.proofs.Tallies.{even-disks, even-pairs}
 use Rattle.design.proofs.rules.is_shelf.Statement.{statement}
 use Rattle.design.proofs.rules.is_shelf.Tie as tie

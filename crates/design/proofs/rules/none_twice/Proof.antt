@@ -10,7 +10,7 @@ use borrow.Author.Needs.{needs}
 use Rattle.design.specs.Count.{every}
 use Rattle.design.specs.Tuples.{noneTwice}
 use Rattle.design.proofs.Counting.{fails, every-not, every-none, every-next, every-end}
-use Rattle.design.proofs.Tests.{onceUpTo, none-repeated}
+use Rattle.design.proofs.Twice.{onceUpTo, none-repeated}
 use Rattle.design.proofs.rules.none_twice.Statement.{statement}
 use Rattle.design.proofs.rules.none_twice.Tie as tie
 

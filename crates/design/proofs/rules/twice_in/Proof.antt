@@ -8,7 +8,7 @@ use native.Mathlib.Omega.{arith}
 use lib.ListN.{getD}
 use borrow.Author.Count.{below-more}
 use Rattle.design.specs.Tuples.{again}
-use Rattle.design.proofs.Tests.{onceUpTo, again-of, again-none, none-repeated, repeated-first}
+use Rattle.design.proofs.Twice.{onceUpTo, again-of, again-none, none-repeated, repeated-first}
 use Rattle.design.proofs.Counting.{every-none, every-next}
 use Rattle.design.proofs.rules.twice_in.Statement.{statement}
 use Rattle.design.proofs.rules.twice_in.Tie as tie

@@ -5,14 +5,14 @@ use mathlib.Core.Logic.{_↔_}
 use mathlib.Core.List.{List}
 use Prim.Native.Nat.{ℕ, _+_, _-_, _≤_, _<_, max}
 use native.Mathlib.Omega.{arith}
-use lib.Bits.{bitOr, or-add-and, and-le-l, and-le-r}
+use lib.Bits.{bitOr}
 use lib.Dec.{eqb}
 use lib.ListN.{getD}
 use borrow.Author.Count.{below-more}
 use borrow.Author.Tests.{eq-eqb, eqb-true}
 use Rattle.design.specs.Shelf.{zeroPast}
 use Rattle.design.proofs.Counting.{alike}
-use Rattle.design.proofs.Tests.{zero-past}
+use Rattle.design.proofs.ShelfTests.{or-zero, zero-past}
 use Rattle.design.proofs.rules.zero_past.Statement.{statement}
 use Rattle.design.proofs.rules.zero_past.Tie as tie
 
@@ -24,9 +24,6 @@ Inv-loop table n any₀ i₀ any i = (n ≤ i) × (i ≤ max n 2048) × ((any �
 
 abbrev μ-loop : tie.MeasureT-loop
 μ-loop table n any₀ i₀ any i = 2048 - i
-
-or-zero : (a b : ℕ) → (bitOr a b ≡ 0) ↔ ((a ≡ 0) × (b ≡ 0))
-or-zero a b = (λ e. omega (arith, or-add-and a b, and-le-l a b, and-le-r a b), λ e. omega (arith, or-add-and a b))
 
 one-more : (table : List ℕ) (n any i : ℕ) → n ≤ i → ((any ≡ 0) ↔ Zeros table n i) → (bitOr any (getD table i 0) ≡ 0) ↔ Zeros table n (i + 1)
 one-more table n any i h e = (

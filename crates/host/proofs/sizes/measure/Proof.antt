@@ -8,7 +8,7 @@ use Prim.Native.Nat.{ℕ, _*_, _≤_}
 use native.Mathlib.Omega.{arith}
 use Rattle.design.specs.Shelf.{isShelf}
 use Rattle.design.specs.Sheet.{sheetLength}
-use Rattle.design.proofs.Tests.{shelf-parts}
+use Rattle.design.proofs.ShelfTests.{shelf-parts}
 use Rattle.parity.proofs.Sized.{units-most, image-size-most}
 use Rattle.host.proofs.Bits.{unit-bit}
 use Rattle.host.proofs.sizes.measure.Statement.{statement}

@@ -3,7 +3,7 @@ use mathlib.Core.List.{List, [], _∷_, _++_}
 use Prim.Native.Nat.{ℕ, _^_}
 use native.Mathlib.Omega.{arith}
 use Rattle.design.specs.declared.Shelf.{Shelf}
-use Rattle.design.proofs.Tests.{shelf-parts}
+use Rattle.design.proofs.ShelfTests.{shelf-parts}
 use Rattle.layout.specs.Text.{lineEnd, decimal, spaced, firstLine}
 use Rattle.layout.specs.inner.Steps.{Fits, Put}
 use Rattle.layout.proofs.Puts.{kept-length, put-then, fits-front, fits-rest}

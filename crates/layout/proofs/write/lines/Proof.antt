@@ -2,7 +2,7 @@
 use mathlib.Core.Path.{_≡_}
 use Prim.Native.Nat.{_-_, _≤_}
 use native.Mathlib.Omega.{arith}
-use Rattle.design.proofs.Tests.{shelf-parts}
+use Rattle.design.proofs.ShelfTests.{shelf-parts}
 use Rattle.placement.proofs.Bounds.{bounds}
 use Rattle.layout.proofs.Printing.{Printed, printed-none, reckoned, line-fits, printed-next, printed-length, printed-all}
 use Rattle.layout.proofs.write.lines.Statement.{statement}

@@ -4,7 +4,7 @@ use mathlib.Core.Logic.{⊎-elim}
 use Prim.Native.Nat.{_-_, _≤_}
 use native.Mathlib.Omega.{arith}
 use borrow.Author.Needs.{needs}
-use Rattle.design.proofs.Tests.{shelf-parts}
+use Rattle.design.proofs.ShelfTests.{shelf-parts}
 use Rattle.parity.proofs.ReadCounts.{copies-most, each-most, Filled, filled-none, filled-next, filled-over, filled-all, none-read}
 use Rattle.parity.proofs.restoring.counts.Statement.{statement}
 use Rattle.parity.proofs.restoring.counts.Tie as tie

@@ -7,7 +7,7 @@ use borrow.Author.Needs.{needs}
 use Rattle.design.specs.declared.Verdict.the-variants.{Accepted}
 use Rattle.design.specs.Refusals.{firstBroken}
 use Rattle.design.specs.Shelf.{isShelf}
-use Rattle.design.proofs.Tests.{shelf-parts}
+use Rattle.design.proofs.ShelfTests.{shelf-parts}
 use Rattle.parity.specs.Calls.{stripeRules}
 use Rattle.parity.specs.inner.Judged.{imageRules, spanRules}
 use Rattle.parity.proofs.Accepted.{rule-kept}

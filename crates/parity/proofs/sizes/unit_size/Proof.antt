@@ -1,6 +1,6 @@
 -- `parity::sizes::unit_size` meets its contract: one bit, u places up, is within a word. Assumes nothing.
 use native.Mathlib.Omega.{arith}
-use Rattle.design.proofs.Tests.{shelf-parts}
+use Rattle.design.proofs.ShelfTests.{shelf-parts}
 use Rattle.parity.proofs.Sized.{unit-size-most}
 use Rattle.parity.proofs.sizes.unit_size.Statement.{statement}
 use Rattle.parity.proofs.sizes.unit_size.Tie as tie

@@ -6,7 +6,7 @@ use native.Mathlib.Nat.{mod-lt}
 use native.Mathlib.Omega.{arith}
 use lib.Arith.{digits-lt}
 use borrow.Author.Needs.{needs}
-use Rattle.design.proofs.Tests.{shelf-parts}
+use Rattle.design.proofs.ShelfTests.{shelf-parts}
 use Rattle.placement.specs.declared.LookUp.the-variants as LookUp
 use Rattle.placement.specs.Layout.{Layout, layoutIn, stripes, addresses, parityOf, stripeAt, positionAt}
 use Rattle.placement.proofs.Even.{Even, even-shelf}
