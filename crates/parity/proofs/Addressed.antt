@@ -1,10 +1,10 @@
--- A read or a write of an address that has passed its rules: the numbers that the code takes are those of the shelf, and its steps come
--- to what is promised. Assumes nothing.
+-- A read or a write of an address that has passed its rules: from where the address stands, the steps of the code come to what is
+-- promised. Assumes nothing.
 use mathlib.Core.Path.{_≡_, sym, ap, ap₂, _∙_}
 use mathlib.Core.Logic.{_≢_}
-use mathlib.Core.Bool.{Bool, true, false}
+use mathlib.Core.Bool.{true, false}
 use mathlib.Core.List.{List}
-use Prim.Native.Nat.{ℕ, _+_, _-_, _*_, _/_, _≤_, _<_}
+use Prim.Native.Nat.{ℕ, _+_, _-_, _*_, _≤_, _<_}
 use native.Mathlib.Omega.{arith}
 use lib.ListN.{length}
 use Rattle.design.specs.declared.Shelf.{Shelf}
@@ -12,61 +12,84 @@ use Rattle.design.specs.declared.Verdict.the-variants.{Accepted}
 use Rattle.placement.specs.Layout.{layoutIn, stripeOf, jOf}
 use Rattle.parity.specs.declared.Cost.{Cost}
 use Rattle.parity.specs.declared.Shape.{Shape}
+use Rattle.parity.specs.declared.storing.Standing.{Standing}
 use Rattle.parity.specs.Units.{zeros, unitAt, xorU, xorSum, put}
-use Rattle.parity.specs.Stripe.{unitSize, depth, unitIn, units, presentOn, present, cell, others}
+use Rattle.parity.specs.Stripe.{unitSize, unitIn, units, present, cell, others}
 use Rattle.parity.specs.Calls.{by, costs, fetched, readCost, newParity, unitWritten, writeReads, writeWrites}
 use Rattle.parity.specs.inner.Stores.{Ranked, putUnit}
 use Rattle.parity.specs.inner.Sums.{Placed, numberBy, sumWith}
-use Rattle.parity.specs.inner.Shapes.{shapeIn, UnitCall, resealed}
+use Rattle.parity.specs.inner.Shapes.{shapeIn, standingIn, DataCall, UnitCall, resealed}
 use Rattle.parity.proofs.Image.{unit-fits}
 use Rattle.parity.proofs.Home.{unit-lt, beside-absent}
 use Rattle.parity.proofs.Accepted.{call-stripe-lt, call-data-lt}
-use Rattle.parity.proofs.Ready.{present-disk}
 use Rattle.parity.proofs.Places.{number-unit, sum-cells, sum-others}
 use Rattle.parity.proofs.Prepared.{Prepared}
 use Rattle.parity.proofs.Prepared as prepared
 use Rattle.parity.proofs.UnitStores.{write-both, write-data, write-parity}
 
-module _ {h : Shelf} {image : List ℕ} {a : ℕ} {unit : List ℕ} (w : UnitCall h image a unit) where
+module _ {h : Shelf} {image : List ℕ} {a : ℕ} {unit : List ℕ} (w : UnitCall h image a unit) {at : Standing} (stands : at ≡ standingIn h a) where
   abbrev s : ℕ
   s = stripeOf (layoutIn h) a
 
   abbrev j : ℕ
   j = jOf (layoutIn h) a
 
-  pub data-lt : j < h .k
+  abbrev parity : ℕ
+  parity = unitIn h s (h .k - 1)
+
+  data-lt : j < h .k
   data-lt = omega (arith, call-data-lt w)
 
-  pub parity-lt : h .k - 1 < h .k
+  parity-lt : h .k - 1 < h .k
   parity-lt = omega (arith, call-data-lt w)
 
-  -- ---- the numbers of the units
+  -- ---- what stands there
 
-  module _ (i : ℕ) (hi : i < h .k) where
-    -- it lies within the image
-    pub number-fits : {n : ℕ} → n ≡ unitIn h s i → n * length unit + length unit ≤ length image
-    number-fits e =
-        rw (e, w .exact)
-        (unit-fits (unitSize h) (units h) image (w .stored .size) (unitIn h s i) (unit-lt h (w .stored .shelf) s i (call-stripe-lt w) hi))
+  unit-is : at .unit ≡ unitIn h s j
+  unfolding standingIn
+  unit-is = ap (λ (x : Standing). x .unit) stands
 
-    pub number-present : {n d : ℕ} {there : Bool} → n ≡ unitIn h s i → d ≡ depth h → there ≡ presentOn (h .loss) (n / d) → there ≡ present h (unitIn h s i)
-    number-present {n} e f told = told ∙ ap (λ (d : ℕ). presentOn (h .loss) (n / d)) f ∙ present-disk h n ∙ ap (present h) e
+  parity-is : at .parity ≡ parity
+  unfolding standingIn
+  parity-is = ap (λ (x : Standing). x .parity) stands
+
+  unit-told : at .«unit_present» ≡ present h (unitIn h s j)
+  unfolding standingIn
+  unit-told = ap (λ (x : Standing). x .«unit_present») stands
+
+  parity-told : at .«parity_present» ≡ present h parity
+  unfolding standingIn
+  parity-told = ap (λ (x : Standing). x .«parity_present») stands
+
+  -- its units lie within the image
+  within : (i : ℕ) → i < h .k → {n : ℕ} → n ≡ unitIn h s i → n * length unit + length unit ≤ length image
+  within i hi e =
+      rw (e, w .exact)
+      (unit-fits (unitSize h) (units h) image (w .stored .size) (unitIn h s i) (unit-lt h (w .stored .shelf) s i (call-stripe-lt w) hi))
+
+  pub unit-within : at .unit * length unit + length unit ≤ length image
+  unit-within = within j data-lt unit-is
+
+  pub parity-within : at .parity * length unit + length unit ≤ length image
+  parity-within = within (h .k - 1) parity-lt parity-is
+
+  pub data-call : DataCall h image (at .stripe) (at .index) unit
+  unfolding standingIn
+  data-call = rw stands (record { stored = w .stored; stripe = call-stripe-lt w; index = call-data-lt w; exact = w .exact })
 
   -- ---- a read
 
-  pub read-here : {n : ℕ} {after : List ℕ} → n ≡ unitIn h s j → present h (unitIn h s j) ≡ true
-      → after ≡ unitAt (length unit) image n → (1 ≡ readCost h s j) × (after ≡ fetched h image s j)
+  pub read-here : {after : List ℕ} → at .«unit_present» ≡ true → after ≡ unitAt (length unit) image (at .unit)
+      → (1 ≡ readCost h s j) × (after ≡ fetched h image s j)
   unfolding readCost fetched cell
-  read-here e p loaded = (rw p, rw p (rw (e, w .exact) at loaded))
+  read-here p loaded = let q = sym unit-told ∙ p in (rw q, rw q (rw (unit-is, w .exact) at loaded))
 
-  pub read-lost : {after : List ℕ} → present h (unitIn h s j) ≡ false → after ≡ others h image s j → (h .k - 1 ≡ readCost h s j) × (after ≡ fetched h image s j)
-  unfolding readCost fetched
-  read-lost p summed = (rw p, rw p summed)
+  pub read-lost : {after : List ℕ} → at .«unit_present» ≡ false → after ≡ others h image (at .stripe) (at .index)
+      → (h .k - 1 ≡ readCost h s j) × (after ≡ fetched h image s j)
+  unfolding readCost fetched standingIn
+  read-lost p summed = let q = sym unit-told ∙ p in (rw q, rw q (rw stands at summed))
 
   -- ---- a write
-
-  abbrev parity : ℕ
-  parity = unitIn h s (h .k - 1)
 
   -- data j stands beside the parity
   parity-apart : h .k - 1 ≢ j
@@ -77,55 +100,57 @@ module _ {h : Shelf} {image : List ℕ} {a : ℕ} {unit : List ℕ} (w : UnitCal
   Stored after r w =
       (_≡_ {A = Cost} (record { verdict = Accepted; read = r; written = w }) (costs Accepted (writeReads h s j) (writeWrites h s j))) × (after ≡ unitWritten h image s j unit)
 
-  pub write-parity-lost : {n : ℕ} {after : List ℕ} → n ≡ unitIn h s j → present h parity ≡ false
-      → after ≡ putUnit (length unit) image n unit → Stored after 0 1
+  pub write-parity-lost : {after : List ℕ} → at .«parity_present» ≡ false → after ≡ putUnit (length unit) image (at .unit) unit → Stored after 0 1
   unfolding by writeReads writeWrites
-  write-parity-lost e q stored =
+  write-parity-lost lost stored =
+      let q = sym parity-told ∙ lost in
       let p : present h (unitIn h s j) ≡ true =
       beside-absent h (w .stored .shelf) s (h .k - 1) j (call-stripe-lt w) parity-lt data-lt q (λ f. parity-apart (sym f)) in
-      (rw (p, q), (rw (e, w .exact) at stored) ∙ write-data h (w .stored .shelf) image (w .stored .size) s j unit (call-stripe-lt w) (call-data-lt w) (w .exact) p q)
+      (rw (p, q), (rw (unit-is, w .exact) at stored) ∙ write-data h (w .stored .shelf) image (w .stored .size) s j unit (call-stripe-lt w) (call-data-lt w) (w .exact) p q)
 
-  pub write-data-lost : {after : List ℕ} → present h (unitIn h s j) ≡ false → after ≡ resealed h image s j unit → Stored after (h .k - 2) 1
-  unfolding by writeReads writeWrites newParity resealed
-  write-data-lost {after} p stored =
+  pub write-data-lost : {after : List ℕ} → at .«unit_present» ≡ false → after ≡ resealed h image (at .stripe) (at .index) unit → Stored after (h .k - 2) 1
+  unfolding by writeReads writeWrites newParity resealed standingIn
+  write-data-lost lost stored =
       let ok = w .stored .shelf in
+      let p = sym unit-told ∙ lost in
       let q : present h parity ≡ true = beside-absent h ok s j (h .k - 1) (call-stripe-lt w) data-lt parity-lt p parity-apart in
       let sum : newParity h image s j unit ≡ xorSum (unitSize h) (put (cell h image s) j unit) (h .k - 1) = rw p in (
         rw p,
-        stored
+        (rw stands at stored)
             ∙ ap (putUnit (unitSize h) image parity) (sym sum)
             ∙ write-parity h ok image (w .stored .size) s j unit (call-stripe-lt w) (call-data-lt w) (w .exact) p q,
       )
 
-  pub write-here : {n m : ℕ} {after : List ℕ} → n ≡ unitIn h s j → m ≡ parity → present h (unitIn h s j) ≡ true → present h parity ≡ true
-      → after ≡ putUnit (length unit) (putUnit (length unit) image m (xorU (unitAt (length unit) image m) (xorU (unitAt (length unit) image n) unit))) n unit
+  pub write-here : {after : List ℕ} → at .«unit_present» ≡ true → at .«parity_present» ≡ true
+      → after ≡ putUnit (length unit) (putUnit (length unit) image (at .parity) (xorU (unitAt (length unit) image (at .parity)) (xorU (unitAt (length unit) image (at .unit)) unit))) (at .unit) unit
       → Stored after 2 2
   unfolding by writeReads writeWrites newParity cell
-  write-here e f p q stored =
+  write-here unit-there parity-there stored =
+      let p = sym unit-told ∙ unit-there in
+      let q = sym parity-told ∙ parity-there in
       let sum : newParity h image s j unit ≡ xorU (unitAt (unitSize h) image parity) (xorU (unitAt (unitSize h) image (unitIn h s j)) unit) = rw p in (
         rw (p, q),
-        (rw (e, f, w .exact) at stored)
+        (rw (unit-is, parity-is, w .exact) at stored)
             ∙ ap (λ (x : List ℕ). putUnit (unitSize h) (putUnit (unitSize h) image parity x) (unitIn h s j) unit) (sym sum)
             ∙ write-both h (w .stored .shelf) image (w .stored .size) s j unit (call-stripe-lt w) (call-data-lt w) (w .exact) p q,
       )
 
-  -- ---- beside a lost disk, with the ranks of the table and the shape of the shelf
+-- ---- beside a lost disk, with the ranks of the table and the shape of the shelf
 
-  module _ (ranks : List ℕ) (shape : Shape) (ranked : Ranked (h .table) (h .b * h .k) ranks) (shaped : shape ≡ shapeIn h) where
-    pub sum-asks : Placed (h .table) ranks shape s (length image) × (length unit ≡ shape .size)
-    sum-asks = (prepared.units-placed (record { held = w .stored; ranked = ranked; shaped = shaped }) (call-stripe-lt w), rw shaped (w .exact))
+module _ {h : Shelf} {image : List ℕ} {s j : ℕ} {unit : List ℕ} (w : DataCall h image s j unit) (ranks : List ℕ) {shape : Shape} (ranked : Ranked (h .table) (h .b * h .k) ranks) (shaped : shape ≡ shapeIn h) where
+  pub sum-asks : Placed (h .table) ranks shape s (length image) × (length unit ≡ shape .size)
+  sum-asks = (prepared.units-placed (record { held = w .stored; ranked = ranked; shaped = shaped }) (w .stripe), rw shaped (w .exact))
 
-    pub gathered : {after : List ℕ} → after ≡ sumWith (h .table) ranks shape image s j (zeros (shape .size)) (shape .k) → after ≡ others h image s j
-    gathered summed = (rw shaped at summed) ∙ sum-others h (w .stored .shelf) ranks ranked s (call-stripe-lt w) image j
+  pub gathered : {after : List ℕ} → after ≡ sumWith (h .table) ranks shape image s j (zeros (shape .size)) (shape .k) → after ≡ others h image s j
+  gathered summed = (rw shaped at summed) ∙ sum-others h (w .stored .shelf) ranks ranked s (w .stripe) image j
 
-    pub sealed : {after : List ℕ} → after ≡ putUnit (shape .size) image (numberBy (h .table) ranks shape s (shape .k - 1)) (sumWith (h .table) ranks shape image s j unit (shape .k - 1))
-        → after ≡ resealed h image s j unit
-    unfolding resealed
-    sealed {after} stored =
-        let ok = w .stored .shelf in
-        let hs = call-stripe-lt w in
-        let is : after ≡ putUnit (unitSize h) image (numberBy (h .table) ranks (shapeIn h) s (h .k - 1)) (sumWith (h .table) ranks (shapeIn h) image s j unit (h .k - 1)) = rw shaped at stored in
-        is
-        ∙ ap₂ (λ (n : ℕ) (x : List ℕ). putUnit (unitSize h) image n x)
-        (number-unit h ok ranks ranked s hs (h .k - 1) parity-lt)
-        (sum-cells h ok ranks ranked s hs image j unit (h .k - 1) (omega arith))
+  pub sealed : {after : List ℕ} → after ≡ putUnit (shape .size) image (numberBy (h .table) ranks shape s (shape .k - 1)) (sumWith (h .table) ranks shape image s j unit (shape .k - 1))
+      → after ≡ resealed h image s j unit
+  unfolding resealed
+  sealed {after} stored =
+      let ok = w .stored .shelf in
+      let is : after ≡ putUnit (unitSize h) image (numberBy (h .table) ranks (shapeIn h) s (h .k - 1)) (sumWith (h .table) ranks (shapeIn h) image s j unit (h .k - 1)) = rw shaped at stored in
+      is
+      ∙ ap₂ (λ (n : ℕ) (x : List ℕ). putUnit (unitSize h) image n x)
+      (number-unit h ok ranks ranked s (w .stripe) (h .k - 1) (omega (arith, w .index)))
+      (sum-cells h ok ranks ranked s (w .stripe) image j unit (h .k - 1) (omega arith))

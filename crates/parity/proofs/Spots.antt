@@ -1,4 +1,4 @@
--- The place of an address is that of its unit in the image. Assumes nothing.
+-- The place of an address is that of its unit in the image, and so is the place of its stripe's parity. Assumes nothing.
 use mathlib.Core.Path.{_≡_, sym, ap, _∙_}
 use mathlib.Core.Bool.{true}
 use Prim.Native.Nat.{ℕ, _+_, _-_, _*_, _^_, _<_}
@@ -34,21 +34,29 @@ module _ (h : Shelf) (ok : isShelf h ≡ true) (a : ℕ) (below : a < addresses 
   here : positionIn h s j ≡ positionOf (layoutIn h) s j
   here = position-data h s j (j-lt (layoutIn h) E a)
 
+  parity-lt : h .k - 1 < h .k
+  parity-lt = omega (arith, hj)
+
+  -- ---- its number in the image, which is small, and the parity's
+
+  unit-small : (i : ℕ) → i < h .k → unitIn h s i < 2 ^ 34
+  unit-small i hi = omega (arith, unit-lt h ok s i hs hi, units-most h ok)
+
   pub spot-unit : spotOf (layoutIn h) a .disk * depth h + spotOf (layoutIn h) a .offset ≡ unitIn h (stripeOf (layoutIn h) a) (jOf (layoutIn h) a)
   unfolding spotOf unitIn
   spot-unit = ap (λ (p : ℕ). diskOf (layoutIn h) s p * depth h + offsetOf (layoutIn h) s p) (sym here)
 
-  -- the number of a unit is small
   pub spot-small : spotOf (layoutIn h) a .disk * depth h + spotOf (layoutIn h) a .offset < 2 ^ 34
-  spot-small = rw spot-unit (omega (arith, unit-lt h ok s j hs hj, units-most h ok))
+  spot-small = rw spot-unit (unit-small j hj)
 
-  -- the same of the parity
   pub spot-parity : spotOf (layoutIn h) a .«parity_disk» * depth h + spotOf (layoutIn h) a .«parity_offset» ≡ unitIn h (stripeOf (layoutIn h) a) (h .k - 1)
   unfolding spotOf unitIn
   spot-parity = ap (λ (p : ℕ). diskOf (layoutIn h) s p * depth h + offsetOf (layoutIn h) s p) (sym (position-parity h s))
 
   pub parity-small : spotOf (layoutIn h) a .«parity_disk» * depth h + spotOf (layoutIn h) a .«parity_offset» < 2 ^ 34
-  parity-small = rw spot-parity (omega (arith, unit-lt h ok s (h .k - 1) hs (omega (arith, hj)), units-most h ok))
+  parity-small = rw spot-parity (unit-small (h .k - 1) parity-lt)
+
+  -- ---- its place, and whether it is present
 
   pub spot-offset-lt : spotOf (layoutIn h) a .offset < depth h
   unfolding spotOf
@@ -64,3 +72,11 @@ module _ (h : Shelf) (ok : isShelf h ≡ true) (a : ℕ) (below : a < addresses 
   pub spot-present : presentOn (h .loss) (spotOf (layoutIn h) a .disk) ≡ present h (unitIn h (stripeOf (layoutIn h) a) (jOf (layoutIn h) a))
   unfolding present
   spot-present = ap (presentOn (h .loss)) spot-disk
+
+  parity-disk : spotOf (layoutIn h) a .«parity_disk» ≡ diskAt h (unitIn h s (h .k - 1))
+  unfolding spotOf
+  parity-disk = sym (ap (diskOf (layoutIn h) s) (position-parity h s)) ∙ sym (disk-home h ok s (h .k - 1) hs parity-lt)
+
+  pub parity-present : presentOn (h .loss) (spotOf (layoutIn h) a .«parity_disk») ≡ present h (unitIn h (stripeOf (layoutIn h) a) (h .k - 1))
+  unfolding present
+  parity-present = ap (presentOn (h .loss)) parity-disk

@@ -10,7 +10,7 @@ ghost use Rattle.parity.specs.Units.{unitAt, xorU};
 ghost use Rattle.parity.specs.Stripe.{others};
 ghost use Rattle.parity.specs.Calls.{costs, fetched, readCost, unitWritten, writeReads, writeWrites};
 ghost use Rattle.parity.specs.inner.Stores.{putUnit};
-ghost use Rattle.parity.specs.inner.Shapes.{UnitCall, numbersIn, resealed};
+ghost use Rattle.parity.specs.inner.Shapes.{DataCall, UnitCall, resealed, standingIn};
 use crate::Cost;
 use crate::presence;
 use crate::sizes;
@@ -20,21 +20,32 @@ use design::Shelf;
 use design::Verdict;
 use placement::fast;
 
-// The numbers of an address's unit and of its stripe's parity in the image.
-struct Numbers {
+// Where the unit of an address stands: its stripe and its index there, the numbers of the unit and of the stripe's parity in the
+// image, and whether their disks are present.
+struct Standing {
+    stripe: usize,
+    index: usize,
     unit: usize,
     parity: usize,
+    unit_present: bool,
+    parity_present: bool,
 }
 
-fn numbers_of(shelf: Shelf, address: usize) -> Numbers
+fn standing_of(shelf: Shelf, address: usize) -> Standing
     requires { ⌜ (isShelf shelf ≡ true) × (address < addresses (layoutIn shelf)) ⌝ }
-    ensures { λ r. ⌜ r ≡ numbersIn shelf address ⌝ }
+    ensures { λ r. ⌜ r ≡ standingIn shelf address ⌝ }
 {
     let spot = fast::spot(shelf, address);
     let depth = fast::offsets(shelf);
-    Numbers {
+    let loss = shelf.loss;
+    let count = shelf.k - 1;
+    Standing {
+        stripe: address / count,
+        index: address % count,
         unit: spot.disk * depth + spot.offset,
         parity: spot.parity_disk * depth + spot.parity_offset,
+        unit_present: presence::is_present(loss, spot.disk),
+        parity_present: presence::is_present(loss, spot.parity_disk),
     }
 }
 
@@ -43,27 +54,23 @@ pub fn fetch(shelf: Shelf, image: &[u8], address: usize, buffer: &mut [u8]) -> u
     requires { ⌜ UnitCall shelf (now image) address (now buffer) ⌝ }
     ensures { λ r. ⌜ (r ≡ readCost shelf (stripeOf (layoutIn shelf) address) (jOf (layoutIn shelf) address)) × (now (buffer .exit) ≡ fetched shelf (now (image .entry)) (stripeOf (layoutIn shelf) address) (jOf (layoutIn shelf) address)) ⌝ }
 {
-    let at = numbers_of(shelf, address);
-    let loss = shelf.loss;
-    if presence::is_present(loss, at.unit / fast::offsets(shelf)) {
+    let at = standing_of(shelf, address);
+    if at.unit_present {
         units::load(buffer, image, at.unit);
         return 1;
     }
-    fetch_lost(shelf, image, address, buffer);
+    fetch_lost(shelf, image, at.stripe, at.index, buffer);
     shelf.k - 1
 }
 
-// The unit of an address whose disk is lost. The places of all entries of the table are found in one pass.
-fn fetch_lost(shelf: Shelf, image: &[u8], address: usize, buffer: &mut [u8])
-    requires { ⌜ UnitCall shelf (now image) address (now buffer) ⌝ }
-    ensures { λ _. ⌜ now (buffer .exit) ≡ others shelf (now (image .entry)) (stripeOf (layoutIn shelf) address) (jOf (layoutIn shelf) address) ⌝ }
+// Data j of stripe s, whose disk is lost. The places of all entries of the table are found in one pass.
+fn fetch_lost(shelf: Shelf, image: &[u8], s: usize, j: usize, buffer: &mut [u8])
+    requires { ⌜ DataCall shelf (now image) s j (now buffer) ⌝ }
+    ensures { λ _. ⌜ now (buffer .exit) ≡ others shelf (now (image .entry)) s j ⌝ }
 {
-    let k = shelf.k;
     let table = shelf.table;
     let ranks = sizes::ranks_of(shelf);
     let shape = sizes::shape_of(shelf);
-    let s = address / (k - 1);
-    let j = address % (k - 1);
     stripe::gather(buffer, image, &table, &ranks, shape, s, j);
 }
 
@@ -72,10 +79,8 @@ pub fn store(shelf: Shelf, image: &mut [u8], address: usize, unit: &[u8]) -> Cos
     requires { ⌜ UnitCall shelf (now image) address (now unit) ⌝ }
     ensures { λ r. ⌜ (r ≡ costs Accepted (writeReads shelf (stripeOf (layoutIn shelf) address) (jOf (layoutIn shelf) address)) (writeWrites shelf (stripeOf (layoutIn shelf) address) (jOf (layoutIn shelf) address))) × (now (image .exit) ≡ unitWritten shelf (now (image .entry)) (stripeOf (layoutIn shelf) address) (jOf (layoutIn shelf) address) (now (unit .entry))) ⌝ }
 {
-    let at = numbers_of(shelf, address);
-    let depth = fast::offsets(shelf);
-    let loss = shelf.loss;
-    if !presence::is_present(loss, at.parity / depth) {
+    let at = standing_of(shelf, address);
+    if !at.parity_present {
         units::store(image, at.unit, unit);
         return Cost {
             verdict: Verdict::Accepted,
@@ -83,8 +88,8 @@ pub fn store(shelf: Shelf, image: &mut [u8], address: usize, unit: &[u8]) -> Cos
             written: 1,
         };
     }
-    if !presence::is_present(loss, at.unit / depth) {
-        store_lost(shelf, image, address, unit);
+    if !at.unit_present {
+        store_lost(shelf, image, at.stripe, at.index, unit);
         return Cost {
             verdict: Verdict::Accepted,
             read: shelf.k - 2,
@@ -99,17 +104,14 @@ pub fn store(shelf: Shelf, image: &mut [u8], address: usize, unit: &[u8]) -> Cos
     }
 }
 
-// The parity alone holds the unit of an address whose disk is lost.
-fn store_lost(shelf: Shelf, image: &mut [u8], address: usize, unit: &[u8])
-    requires { ⌜ UnitCall shelf (now image) address (now unit) ⌝ }
-    ensures { λ _. ⌜ now (image .exit) ≡ resealed shelf (now (image .entry)) (stripeOf (layoutIn shelf) address) (jOf (layoutIn shelf) address) (now (unit .entry)) ⌝ }
+// The parity alone holds data j of stripe s, whose disk is lost.
+fn store_lost(shelf: Shelf, image: &mut [u8], s: usize, j: usize, unit: &[u8])
+    requires { ⌜ DataCall shelf (now image) s j (now unit) ⌝ }
+    ensures { λ _. ⌜ now (image .exit) ≡ resealed shelf (now (image .entry)) s j (now (unit .entry)) ⌝ }
 {
-    let k = shelf.k;
     let table = shelf.table;
     let ranks = sizes::ranks_of(shelf);
     let shape = sizes::shape_of(shelf);
-    let s = address / (k - 1);
-    let j = address % (k - 1);
     stripe::reparity(image, &table, &ranks, shape, s, j, unit);
 }
 

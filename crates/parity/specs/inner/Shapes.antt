@@ -7,20 +7,28 @@ use lib.ListN.{length}
 use Rattle.design.specs.declared.Shelf.{Shelf}
 use Rattle.design.specs.Shelf.{isShelf}
 use Rattle.placement.specs.Layout.{layoutIn, stripes, addresses, stripeOf, jOf}
-use Rattle.parity.specs.declared.storing.Numbers.{Numbers}
+use Rattle.parity.specs.declared.storing.Standing.{Standing}
 use Rattle.parity.specs.declared.Shape.{Shape}
 use Rattle.parity.specs.Units.{xorSum, put}
 use Rattle.parity.specs.inner.Stores.{putUnit}
-use Rattle.parity.specs.Stripe.{unitSize, depth, imageSize, unitIn, cell}
+use Rattle.parity.specs.Stripe.{unitSize, depth, imageSize, unitIn, present, cell}
 
 abbrev pub shapeIn : Shelf → Shape
 shapeIn h = record { k = h .k; b = h .b; r = h .r; depth = depth h; size = unitSize h }
 
--- the units of an address and of its stripe's parity
-unfoldable pub numbersIn : Shelf → ℕ → Numbers
-numbersIn h a =
+-- the stripe of an address and its index there, the units of both in the image, and whether they are present
+unfoldable pub standingIn : Shelf → ℕ → Standing
+standingIn h a =
     let s : ℕ = stripeOf (layoutIn h) a in
-    record { unit = unitIn h s (jOf (layoutIn h) a); parity = unitIn h s (h .k - 1) }
+    let j : ℕ = jOf (layoutIn h) a in
+    record {
+      stripe = s;
+      index = j;
+      unit = unitIn h s j;
+      parity = unitIn h s (h .k - 1);
+      «unit_present» = present h (unitIn h s j);
+      «parity_present» = present h (unitIn h s (h .k - 1));
+    }
 
 -- the parity of stripe s becomes the exclusive-or of the data with x for data j
 unfoldable pub resealed : Shelf → List ℕ → ℕ → ℕ → List ℕ → List ℕ
@@ -37,6 +45,13 @@ pub record Held (h : Shelf) (image : List ℕ) : Type 0 where
 pub record UnitCall (h : Shelf) (image : List ℕ) (a : ℕ) (unit : List ℕ) : Type 0 where
   pub stored : Held h image
   pub address : a < addresses (layoutIn h)
+  pub exact : length unit ≡ unitSize h
+
+-- those of a unit that is data j of stripe s
+pub record DataCall (h : Shelf) (image : List ℕ) (s j : ℕ) (unit : List ℕ) : Type 0 where
+  pub stored : Held h image
+  pub stripe : s < stripes (layoutIn h)
+  pub index : j < h .k - 1
   pub exact : length unit ≡ unitSize h
 
 -- those of a stripe write

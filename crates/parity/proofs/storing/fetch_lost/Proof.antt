@@ -1,7 +1,5 @@
 -- `parity::storing::fetch_lost` meets its contract: the exclusive-or of the other units. Assumes nothing.
-use native.Mathlib.Omega.{arith}
 use borrow.Author.Needs.{needs}
-use Rattle.parity.proofs.Accepted.{call-data-lt}
 use Rattle.parity.proofs.Addressed.{sum-asks, gathered}
 use Rattle.parity.proofs.storing.fetch_lost.Statement.{statement}
 use Rattle.parity.proofs.storing.fetch_lost.Tie as tie
@@ -15,38 +13,13 @@ ranks-of-requires c κs = c .before .before .before .pre .stored .shelf
 shape-of-requires : tie.Need-shape-of-requires
 shape-of-requires c κs = c .before .before .before .before .pre .stored .shelf
 
-sub-s : tie.Need-sub-s
-sub-s c = omega (arith, call-data-lt (start c .pre))
-
-div-s : tie.Need-div-s
-div-s c = omega (arith, call-data-lt (start c .pre))
-
-sub-j : tie.Need-sub-j
-sub-j c = omega (arith, call-data-lt (start c .pre))
-
-rem-j : tie.Need-rem-j
-rem-j c = omega (arith, call-data-lt (start c .pre))
-
 gather-requires : tie.Need-gather-requires
-gather-requires c κs =
-    let at = c .before .before .before in
-    sum-asks (start at .pre) _ _ (at .before .ranks-of .ensures) (at .shape-of .ensures)
+gather-requires c κs = let at = c .before .before .before in sum-asks (start at .pre) _ (at .before .ranks-of .ensures) (at .shape-of .ensures)
 
 returns : tie.Need-returns
 returns c =
     let at = c .before .before .before .before .before .before in
-    gathered (start at .pre) _ _ (at .before .ranks-of .ensures) (at .shape-of .ensures) (c .before .before .gather .ensures)
+    gathered (start at .pre) _ (at .before .ranks-of .ensures) (at .shape-of .ensures) (c .before .before .gather .ensures)
 
 pub fetch-lost-spec : {M : Type 1} → statement M
-fetch-lost-spec =
-    tie.close
-    (tie.spec
-    ranks-of-requires
-    shape-of-requires
-    sub-s
-    div-s
-    sub-j
-    rem-j
-    gather-requires
-    (λ c. search needs)
-    returns)
+fetch-lost-spec = tie.close (tie.spec ranks-of-requires shape-of-requires gather-requires (λ c. search needs) returns)

@@ -1,7 +1,5 @@
 -- `parity::storing::store_lost` meets its contract: the parity alone takes the unit in. Assumes nothing.
-use native.Mathlib.Omega.{arith}
 use borrow.Author.Needs.{needs}
-use Rattle.parity.proofs.Accepted.{call-data-lt}
 use Rattle.parity.proofs.Addressed.{sum-asks, sealed}
 use Rattle.parity.proofs.storing.store_lost.Statement.{statement}
 use Rattle.parity.proofs.storing.store_lost.Tie as tie
@@ -15,38 +13,13 @@ ranks-of-requires c κs = c .before .before .before .pre .stored .shelf
 shape-of-requires : tie.Need-shape-of-requires
 shape-of-requires c κs = c .before .before .before .before .pre .stored .shelf
 
-sub-s : tie.Need-sub-s
-sub-s c = omega (arith, call-data-lt (start c .pre))
-
-div-s : tie.Need-div-s
-div-s c = omega (arith, call-data-lt (start c .pre))
-
-sub-j : tie.Need-sub-j
-sub-j c = omega (arith, call-data-lt (start c .pre))
-
-rem-j : tie.Need-rem-j
-rem-j c = omega (arith, call-data-lt (start c .pre))
-
 reparity-requires : tie.Need-reparity-requires
-reparity-requires c κs =
-    let at = c .before .before .before in
-    sum-asks (start at .pre) _ _ (at .before .ranks-of .ensures) (at .shape-of .ensures)
+reparity-requires c κs = let at = c .before .before .before in sum-asks (start at .pre) _ (at .before .ranks-of .ensures) (at .shape-of .ensures)
 
 returns : tie.Need-returns
 returns c =
     let at = c .before .before .before .before .before .before in
-    sealed (start at .pre) _ _ (at .before .ranks-of .ensures) (at .shape-of .ensures) (c .before .before .reparity .ensures)
+    sealed (start at .pre) _ (at .before .ranks-of .ensures) (at .shape-of .ensures) (c .before .before .reparity .ensures)
 
 pub store-lost-spec : {M : Type 1} → statement M
-store-lost-spec =
-    tie.close
-    (tie.spec
-    ranks-of-requires
-    shape-of-requires
-    sub-s
-    div-s
-    sub-j
-    rem-j
-    reparity-requires
-    (λ c. search needs)
-    returns)
+store-lost-spec = tie.close (tie.spec ranks-of-requires shape-of-requires reparity-requires (λ c. search needs) returns)
