@@ -23,8 +23,7 @@ use Rattle.parity.proofs.Image.{unit-fits}
 use Rattle.parity.proofs.Home.{unit-lt, beside-absent}
 use Rattle.parity.proofs.Accepted.{call-stripe-lt, call-data-lt}
 use Rattle.parity.proofs.Places.{number-unit, sum-cells, sum-others}
-use Rattle.parity.proofs.Prepared.{Prepared}
-use Rattle.parity.proofs.Prepared as prepared
+use Rattle.parity.proofs.Prepared.{units-placed}
 use Rattle.parity.proofs.UnitStores.{write-both, write-data, write-parity}
 
 module _ {h : Shelf} {image : List ℕ} {a : ℕ} {unit : List ℕ} (w : UnitCall h image a unit) {at : Standing} (stands : at ≡ standingIn h a) where
@@ -139,7 +138,7 @@ module _ {h : Shelf} {image : List ℕ} {a : ℕ} {unit : List ℕ} (w : UnitCal
 
 module _ {h : Shelf} {image : List ℕ} {s j : ℕ} {unit : List ℕ} (w : DataCall h image s j unit) (ranks : List ℕ) {shape : Shape} (ranked : Ranked (h .table) (h .b * h .k) ranks) (shaped : shape ≡ shapeIn h) where
   pub sum-asks : Placed (h .table) ranks shape s (length image) × (length unit ≡ shape .size)
-  sum-asks = (prepared.units-placed (record { held = w .stored; ranked = ranked; shaped = shaped }) (w .stripe), rw shaped (w .exact))
+  sum-asks = (units-placed (record { held = w .stored; ranked = ranked; shaped = shaped }) (w .stripe), rw shaped (w .exact))
 
   pub gathered : {after : List ℕ} → after ≡ sumWith (h .table) ranks shape image s j (zeros (shape .size)) (shape .k) → after ≡ others h image s j
   gathered summed = (rw shaped at summed) ∙ sum-others h (w .stored .shelf) ranks ranked s (w .stripe) image j
