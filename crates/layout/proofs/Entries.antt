@@ -3,10 +3,10 @@ use mathlib.Core.Path.{_≡_}
 use mathlib.Core.List.{List, [], _∷_}
 use Prim.Native.Nat.{ℕ, _+_, _<_}
 use native.Mathlib.Omega.{arith}
-use lib.ListN.{length, getD, set, length-set}
+use lib.ListN.{length, getD, set}
 use Rattle.layout.specs.Text.{colon, decimal, spaced}
 use Rattle.layout.specs.inner.Steps.{Fits, Put, entryWord}
-use Rattle.layout.proofs.Puts.{put-one, put-then, fits-front, fits-rest}
+use Rattle.layout.proofs.Puts.{put-one, put-then, fits-front, fits-rest, fits-after}
 
 module _ {buffer : List ℕ} {at : ℕ} (table ranks : List ℕ) (base entry : ℕ) (fits : Fits buffer at (entryWord table ranks base entry)) {d : ℕ} (disk : d ≡ getD table entry 0) where
   pub disk-fits : Fits buffer at (spaced (decimal d))
@@ -23,7 +23,7 @@ module _ {buffer : List ℕ} {at : ℕ} (table ranks : List ℕ) (base entry : �
 
     module _ {o : ℕ} (rank : o ≡ getD ranks entry 0) where
       pub offset-fits : Fits (set between middle colon) (middle + 1) (decimal (base + o))
-      offset-fits = rw rank (record { room = omega (arith, rest-fits .room, length-set between middle colon) })
+      offset-fits = rw rank (fits-after colon rest-fits)
 
       pub entry-put : {next : ℕ} {after : List ℕ} → Put (set between middle colon) (middle + 1) (decimal (base + o)) next after
           → Put buffer at (entryWord table ranks base entry) next after

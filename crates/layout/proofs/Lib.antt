@@ -1,8 +1,11 @@
 pub mod Puts
 pub mod Decimals
 pub mod Opening
-pub mod Lengths
+pub mod Joined
+pub mod Words
+pub mod FirstLine
 pub mod Ranking
+pub mod Lengths
 pub mod Entries
 pub mod Calls
 pub mod Splitting

@@ -3,7 +3,7 @@ use mathlib.Core.Path.{_≡_, refl, sym, ap, ap₂, _∙_}
 use mathlib.Core.List.{List, [], _∷_, _++_, append-assoc, append-nil}
 use Prim.Native.Nat.{ℕ, suc, _+_, _<_}
 use native.Mathlib.Omega.{arith}
-use lib.ListN.{length, take, drop, set, length-append, length-drop, take-append-drop}
+use lib.ListN.{length, take, drop, set, length-set, length-append, length-drop, take-append-drop}
 use lib.Seq.{length-take-le, take-at, drop-at, drop-drop, set-split, take-set-le, append-snoc, sets, sets-eq}
 use Rattle.layout.specs.inner.Steps.{put, Fits, Put}
 
@@ -106,3 +106,7 @@ module _ {buffer : List ℕ} {at : ℕ} where
   pub fits-rest : {x y : List ℕ} {middle : ℕ} {between : List ℕ} → Fits buffer at (x ++ y) → Put buffer at x middle between → Fits between middle y
   fits-rest {x} {y} fits p =
       record { room = omega (arith, length-append x y, p .moves, kept-length (fits-front x y fits) p) }
+
+  -- after a byte, whichever it is, there is room for the rest of a text
+  pub fits-after : {x : ℕ} {text : List ℕ} (y : ℕ) → Fits buffer at (x ∷ text) → Fits (set buffer at y) (at + 1) text
+  fits-after y fits = record { room = omega (arith, fits .room, length-set buffer at y) }

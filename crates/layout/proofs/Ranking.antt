@@ -14,13 +14,13 @@ use Rattle.placement.proofs.Position.{parity-lt, position-lt}
 use Rattle.placement.proofs.Row.{tuple-lt}
 use Rattle.layout.specs.Text.{lineEnd, colon, decimal, placeText, spaced, placeWord, stripeLine}
 use Rattle.layout.specs.inner.Steps.{Ranked, entryWord, dataWords, baseOf, rankedLine}
-use Rattle.layout.proofs.Lengths.{joined-ext}
+use Rattle.layout.proofs.Joined.{joined-ext}
 
 module _ (h : Shelf) (ok : isShelf h ≡ true) (ranks : List ℕ) (R : Ranked (h .table) (h .b * h .k) ranks) (s : ℕ) where
-  abbrev base : ℕ
+  abbrev pub base : ℕ
   base = baseOf (h .k) (h .r) (splitOf (h .k) (h .b) s)
 
-  abbrev entry : ℕ → ℕ
+  abbrev pub entry : ℕ → ℕ
   entry p = tupleOf (layoutIn h) s * h .k + p
 
   -- the base and an entry's rank are its offset
@@ -31,7 +31,7 @@ module _ (h : Shelf) (ok : isShelf h ≡ true) (ranks : List ℕ) (R : Ranked (h
       let hq : q < h .b = tuple-lt (layoutIn h) (even-shelf h ok) s in
       ap (_+_ base) (R (entry p) (digits-lt hq hp) ∙ rank-before h ok q p (diskOf (layoutIn h) s p) hq hp refl)
 
-  word-is : (p : ℕ) → p < h .k → entryWord (h .table) ranks base (entry p) ≡ placeWord (layoutIn h) s p
+  pub word-is : (p : ℕ) → p < h .k → entryWord (h .table) ranks base (entry p) ≡ placeWord (layoutIn h) s p
   unfolding entryWord placeWord placeText placeOf
   word-is p hp = ap (λ (o : ℕ). spaced (decimal (diskOf (layoutIn h) s p)) ++ colon ∷ decimal o) (offset-is p hp)
 

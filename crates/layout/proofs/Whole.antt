@@ -21,7 +21,7 @@ use Rattle.layout.specs.declared.Start.{Start}
 use Rattle.layout.specs.Text.{lastDigits, decimal, placeText, joined, firstLine, placeWord, stripeLine, linesFrom, refusedLine, textBy, layoutText}
 use Rattle.layout.specs.Calls.{started, startedBy}
 use Rattle.layout.specs.Known.{sheetB, textB}
-use Rattle.layout.proofs.Lengths.{joined-ext, joined-add}
+use Rattle.layout.proofs.Joined.{joined-ext, joined-add}
 
 -- ---- sheet B
 

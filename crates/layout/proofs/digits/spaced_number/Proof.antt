@@ -1,10 +1,9 @@
 -- `layout::digits::spaced_number` meets its contract. Assumes nothing.
 use mathlib.Core.List.{[], _∷_}
 use native.Mathlib.Omega.{arith}
-use lib.ListN.{length-set}
 use Rattle.layout.specs.Text.{space, decimal, spaced}
 use Rattle.layout.specs.inner.Steps.{Put}
-use Rattle.layout.proofs.Puts.{kept-length, put-one, put-then}
+use Rattle.layout.proofs.Puts.{kept-length, put-one, put-then, fits-after}
 use Rattle.layout.proofs.digits.spaced_number.Statement.{statement}
 use Rattle.layout.proofs.digits.spaced_number.Tie as tie
 
@@ -15,9 +14,7 @@ add-number : tie.Need-add-number
 add-number c = omega (arith, c .before .before .pre .room)
 
 number-requires : tie.Need-number-requires
-number-requires c κs =
-    let s = c .before .before in
-    record { room = omega (arith, s .pre .room, length-set (s .args .out .now) (s .args .at) space) }
+number-requires c κs = fits-after _ (c .before .before .pre)
 
 written : (c : tie.After-number)
     → Put (c .before .before .before .args .out .now) (c .before .before .before .args .at) (spaced (decimal (c .before .before .before .args .n)))

@@ -1,16 +1,16 @@
 -- `layout::write::data` meets its contract. The loop's invariant: the first j places are written. Assumes nothing.
-use mathlib.Core.Path.{_≡_, sym, ap, _∙_}
+use mathlib.Core.Path.{_≡_}
 use mathlib.Core.Logic.{⊎-elim}
 use mathlib.Core.Bool.{cond}
-use mathlib.Core.List.{List, _++_}
+use mathlib.Core.List.{List}
 use Prim.Native.Nat.{ℕ, _+_, _-_, _≤_, _<_}
 use native.Mathlib.Omega.{arith}
 use lib.Dec.{ltb}
 use borrow.Author.Tests.{lt-ltb, le-ltb}
 use Rattle.layout.specs.Text.{joined}
 use Rattle.layout.specs.inner.Steps.{Fits, Put, entryWord, dataWords}
-use Rattle.layout.proofs.Puts.{kept-length, put-nothing, put-then, fits-rest}
-use Rattle.layout.proofs.Lengths.{joined-next, joined-le}
+use Rattle.layout.proofs.Puts.{kept-length, put-nothing}
+use Rattle.layout.proofs.Words.{fewer-fit, next-fits, put-next}
 use Rattle.layout.proofs.write.data.Statement.{statement}
 use Rattle.layout.proofs.write.data.Tie as tie
 
@@ -22,19 +22,12 @@ abbrev μ-loop : tie.MeasureT-loop
 
 -- ---- the words, and that they fit
 
-abbrev words : tie.Start Inv-loop μ-loop → ℕ → List ℕ
-words s j = dataWords (s .args .table .now) (s .args .ranks .now) (s .args .base) (s .args .row) (s .args .parity) j
-
 abbrev word : tie.Start Inv-loop μ-loop → ℕ → List ℕ
-word s position = entryWord (s .args .table .now) (s .args .ranks .now) (s .args .base) (s .args .row + position)
+word s j = entryWord (s .args .table .now) (s .args .ranks .now) (s .args .base) (s .args .row + cond (ltb j (s .args .parity)) j (j + 1))
 
-words-fit : (s : tie.Start Inv-loop μ-loop) (j : ℕ) → j ≤ s .args .n → Fits (s .args .out .now) (s .args .at) (words s j)
+fits : (s : tie.Start Inv-loop μ-loop) (j : ℕ) → j ≤ s .args .n → Fits (s .args .out .now) (s .args .at) (joined j (word s))
 unfolding dataWords
-words-fit s j h = record { room = omega (arith, s .pre .0 .room, joined-le j (s .args .n) (λ i. word s (cond (ltb i (s .args .parity)) i (i + 1))) h) }
-
-words-next : (s : tie.Start Inv-loop μ-loop) (j : ℕ) → words s (j + 1) ≡ words s j ++ word s (cond (ltb j (s .args .parity)) j (j + 1))
-unfolding dataWords
-words-next s j = joined-next j (λ i. word s (cond (ltb i (s .args .parity)) i (i + 1)))
+fits s j l = fewer-fit (word s) l (s .pre .0)
 
 -- ---- one turn
 
@@ -46,13 +39,6 @@ position-is c =
     let j : ℕ = c .before .before .loop .j in
     let parity : ℕ = start c .args .parity in
     ⊎-elim (λ w. rw (lt-ltb j parity (w .0 .taken)) (w .1)) (λ w. rw (le-ltb j parity (w .0 .left)) (w .1)) (c .if1 .came)
-
--- the next words are those so far and this one
-next-is : (c : tie.Joined1 Inv-loop μ-loop) → words (start c) (c .before .before .loop .j + 1) ≡ words (start c) (c .before .before .loop .j) ++ word (start c) (c .if1 .position)
-next-is c = words-next (start c) (c .before .before .loop .j) ∙ ap (λ (i : ℕ). words (start c) (c .before .before .loop .j) ++ word (start c) i) (sym (position-is c))
-
-next-fits : (c : tie.Joined1 Inv-loop μ-loop) → Fits (start c .args .out .now) (start c .args .at) (words (start c) (c .before .before .loop .j) ++ word (start c) (c .if1 .position))
-next-fits c = rw (next-is c) at (words-fit (start c) (c .before .before .loop .j + 1) (omega (arith, c .before .loop-test .taken)))
 
 loop-holds : tie.Need-loop-holds Inv-loop μ-loop
 unfolding dataWords joined
@@ -71,9 +57,12 @@ add-place : tie.Need-add-place Inv-loop μ-loop
 add-place c = omega (arith, position-lt (c .before .before))
 
 place-requires : tie.Need-place-requires Inv-loop μ-loop
+unfolding dataWords
 place-requires c κs =
     let t = c .before .before in
-    (fits-rest (next-fits t) (t .before .before .loop .inv .1), (start t .pre .1 .0, position-lt t))
+    let l = t .before .before .loop in
+    let more = fits (start t) (l .j + 1) (omega (arith, t .before .loop-test .taken)) in
+    (rw (position-is t) (next-fits (word (start t)) (l .j) more (l .inv .1)), (start t .pre .1 .0, position-lt t))
 
 add-j : tie.Need-add-j Inv-loop μ-loop
 add-j c = omega (arith, c .before .before .before .before .before .before .loop-test .taken)
@@ -82,16 +71,20 @@ loop-less : tie.Need-loop-less Inv-loop μ-loop
 loop-less c = omega (arith, c .before .before .before .before .before .before .loop-test .taken)
 
 loop-again : tie.Need-loop-again Inv-loop μ-loop
+unfolding dataWords
 loop-again c =
-    let t = c .before .before .before .before .before in (
+    let t = c .before .before .before .before .before in
+    let l = t .before .before .loop in
+    let more = fits (start t) (l .j + 1) (omega (arith, t .before .loop-test .taken)) in (
       omega (arith, t .before .loop-test .taken),
-      rw (next-is t) (put-then (next-fits t) (t .before .before .loop .inv .1) (c .before .before .place .ensures)),
+      put-next (word (start t)) (l .j) more (l .inv .1) (rw (position-is t) at (c .before .before .place .ensures)),
     )
 
 same-length : tie.Need-same-length Inv-loop μ-loop
+unfolding dataWords
 same-length c =
     let s = c .before .before .before in
-    kept-length (words-fit s (c .before .loop .j) (c .before .loop .inv .0)) (c .before .loop .inv .1)
+    kept-length (fits s (c .before .loop .j) (c .before .loop .inv .0)) (c .before .loop .inv .1)
 
 returns : tie.Need-returns Inv-loop μ-loop
 returns c =

@@ -4,12 +4,14 @@ use Prim.Native.Nat.{_-_, _≤_}
 use native.Mathlib.Omega.{arith}
 use Rattle.design.proofs.ShelfTests.{shelf-parts}
 use Rattle.placement.proofs.Bounds.{bounds}
-use Rattle.layout.proofs.Printing.{Printed, printed-none, reckoned, line-fits, printed-next, printed-length, printed-all}
+use Rattle.layout.specs.Text.{joined}
+use Rattle.layout.proofs.Puts.{put-nothing}
+use Rattle.layout.proofs.Printing.{Printed, reckoned, line-fits, printed-next, printed-length, printed-all}
 use Rattle.layout.proofs.write.lines.Statement.{statement}
 use Rattle.layout.proofs.write.lines.Tie as tie
 
 abbrev Inv-loop : tie.InvT-loop
-Inv-loop out₀ first n table k b r ranks at₀ i₀ out at i = (i ≤ n) × Printed table ranks k b r first out₀ i at out
+Inv-loop out₀ first n table k b r ranks at₀ i₀ out at i = Printed table ranks k b r first out₀ i at out × (i ≤ n)
 
 abbrev μ-loop : tie.MeasureT-loop
 μ-loop out₀ first n table k b r ranks at₀ i₀ out at i = n - i
@@ -29,7 +31,8 @@ ranks-requires c κs =
     (w .limits .places, λ i l. omega (arith, w .below i l, w .limits .v-most))
 
 loop-holds : tie.Need-loop-holds Inv-loop μ-loop
-loop-holds c = (omega arith, printed-none)
+unfolding joined
+loop-holds c = (put-nothing, omega arith)
 
 add-line : tie.Need-add-line Inv-loop μ-loop
 add-line c =
@@ -42,7 +45,7 @@ line-requires c κs =
     let t = c .before .before .before in
     let s = start (t .before .before) in
     let h = s .args .shelf in (
-      line-fits h (s .pre .0) (s .args .first) (s .args .n) (s .pre .1) (t .before .before .ranks .result) (t .before .before .ranks .ensures) (s .pre .2) (t .before .loop .inv .1) (t .loop-test .taken),
+      line-fits h (s .pre .0) (s .args .first) (s .args .n) (s .pre .1) (t .before .before .ranks .result) (t .before .before .ranks .ensures) (s .pre .2) (t .before .loop .i) (t .before .loop .inv .0) (t .loop-test .taken),
       reckoned h (s .pre .0) (s .args .first) (s .args .n) (s .pre .1) (t .before .loop .i) (t .loop-test .taken),
     )
 
@@ -57,25 +60,29 @@ loop-again c =
     let t = c .before .before .before .before .before .before in
     let s = start (t .before .before) in
     let h = s .args .shelf in (
-      omega (arith, t .loop-test .taken),
-      printed-next h (s .pre .0) (s .args .first) (s .args .n) (s .pre .1) (t .before .before .ranks .result) (t .before .before .ranks .ensures) (s .pre .2) (t .before .loop .inv .1)
+      printed-next h (s .pre .0) (s .args .first) (s .args .n) (s .pre .1) (t .before .before .ranks .result) (t .before .before .ranks .ensures) (s .pre .2)
+          (t .before .loop .i)
+          (t .before .loop .inv .0)
           (t .loop-test .taken)
           (c .before .before .line .ensures),
+      omega (arith, t .loop-test .taken),
     )
 
 same-length : tie.Need-same-length Inv-loop μ-loop
 same-length c =
     let s = start (c .before .before) in
     printed-length (s .args .shelf) (s .pre .0) (s .args .first) (s .args .n) (s .pre .1) (c .before .before .ranks .result) (c .before .before .ranks .ensures) (s .pre .2)
-    (c .before .loop .inv .1)
+    (c .before .loop .i)
     (c .before .loop .inv .0)
+    (c .before .loop .inv .1)
 
 returns : tie.Need-returns Inv-loop μ-loop
 returns c =
     let s = start (c .before .before) in
-    let e : c .before .loop .i ≡ s .args .n = omega (arith, c .before .loop .inv .0, c .loop-test .left) in
+    let e : c .before .loop .i ≡ s .args .n = omega (arith, c .before .loop .inv .1, c .loop-test .left) in
     printed-all (s .args .shelf) (s .pre .0) (s .args .first) (s .args .n) (s .pre .1) (c .before .before .ranks .result) (c .before .before .ranks .ensures) (s .pre .2)
-    (c .before .loop .inv .1)
+    (c .before .loop .i)
+    (c .before .loop .inv .0)
     e
 
 pub lines-spec : {M : Type 1} → statement M

@@ -3,7 +3,7 @@
 use Prim.Native.Nat.{_+_, _*_, _^_, _≤_, _<_}
 use native.Mathlib.Omega.{arith}
 use borrow.Author.Needs.{needs}
-use Rattle.design.proofs.Tests.{shelf-parts}
+use Rattle.design.proofs.ShelfTests.{shelf-parts}
 use Rattle.parity.specs.inner.Shapes.{standingIn}
 use Rattle.parity.proofs.Spots.{spot-unit, spot-small, spot-present, spot-parity, parity-small, parity-present}
 use Rattle.parity.proofs.storing.standing_of.Statement.{statement}
