@@ -24,6 +24,11 @@ module _ {n r : ℕ} {buffer : List ℕ} {unaltered answered : Type 0} where
 pub told : {A : Type 0} {promised given : A → Type 0} (x : A) → promised x → given x → Told promised given
 told x kept gave = record { answer = x; keeps = kept; gives = gave }
 
+-- into a buffer that fits
+pub told-fits : {n r : ℕ} {buffer : List ℕ} {unaltered A : Type 0} {promised given : A → Type 0} → length buffer ≡ 4 * n
+    → (x : A) → promised x → given x → Into n buffer r unaltered (Told promised given)
+told-fits l x kept gave = into-fits l (told x kept gave)
+
 -- what is given and left by a verdict
 module _ {A : Type 0} {v : Verdict} where
   pub given-refused : {x : Refusal} {r : ℕ} (new old : A) → r ≡ numberOf v → v ≡ Refused x → (r ≡ numberOf v) × (old ≡ by v new old)

@@ -13,6 +13,11 @@ pub numbered-none : (bytes : List ℕ) (i : ℕ) → bytes ≡ numbered bytes i 
 unfolding numbered
 numbered-none bytes i = refl
 
+-- one number
+pub numbered-one : (bytes : List ℕ) (i x : ℕ) {after : List ℕ} → after ≡ withNumber bytes i x → after ≡ numbered bytes i (x ∷ [])
+unfolding numbered
+numbered-one bytes i x wrote = wrote
+
 numbered-more : (bytes : List ℕ) (i : ℕ) (l : List ℕ) (x : ℕ) → numbered bytes i (l ++ x ∷ []) ≡ withNumber (numbered bytes i l) (i + length l) x
 unfolding numbered
 numbered-more bytes i [] x = ap (λ (j : ℕ). withNumber bytes j x) (sym (add-zero i))

@@ -1,8 +1,9 @@
 -- Where a shown part starts: what its length tells of the call, and that the bytes there are those shown. Assumes nothing.
 use mathlib.Core.Path.{_≡_, refl, sym, ap, _∙_}
+use mathlib.Core.Logic.{_↔_}
 use mathlib.Core.Bool.{true, false, cond}
 use mathlib.Core.List.{List, [], _∷_}
-use Prim.Native.Nat.{ℕ, _+_, _*_, _≤_}
+use Prim.Native.Nat.{ℕ, _+_, _*_, _≤_, _<_}
 use native.Mathlib.Omega.{arith}
 use lib.Arith.{digits-lt}
 use lib.ListN.{length, take, drop}
@@ -12,12 +13,13 @@ use Rattle.design.specs.declared.Shelf.{Shelf}
 use Rattle.design.specs.declared.Verdict.{Verdict}
 use Rattle.design.specs.declared.Verdict.the-variants.{Accepted, Refused}
 use Rattle.design.specs.Refusals.{firstBroken}
+use Rattle.design.specs.Shelf.{isShelf}
 use Rattle.placement.specs.Layout.{layoutIn, stripeOf, jOf}
 use Rattle.placement.specs.declared.Spot.{Spot}
 use Rattle.placement.specs.Placed.{spotOf}
 use Rattle.parity.specs.Units.{unitAt}
 use Rattle.parity.specs.Stripe.{unitSize, depth, units, unitIn, present, cell}
-use Rattle.parity.specs.Calls.{placeRules, placeShown, unitRules, addressShown}
+use Rattle.parity.specs.Calls.{by, placeRules, placeShown, unitRules, addressShown}
 use Rattle.parity.specs.inner.Shapes.{UnitCall}
 use Rattle.parity.proofs.Accepted.{PlaceCall, show-place-accepted, unit-accepted}
 use Rattle.parity.proofs.By.{by-accepted, by-refused}
@@ -36,24 +38,35 @@ not-refused : (v : Verdict) → ((x : Refusal) → v ≡ Refused x → ⊥) → 
 not-refused Accepted no-refusal = refl
 not-refused (Refused x) no-refusal = absurd (no-refusal x refl)
 
+-- where the empty part is shown exactly by a refusal: a part of no bytes is a refusal, any other an accepted call
+module _ {v : Verdict} {part all : List ℕ} (shown : part ≡ all) (empty : (all ≡ []) ↔ ((x : Refusal) × (v ≡ Refused x))) where
+  part-refused : {A : Type 0} (new old : A) → length part ≡ 0 → old ≡ by v new old
+  part-refused new old e = sym (by-refused new old (empty .0 (sym shown ∙ none-is part e) .1))
+
+  part-accepted : (length part ≡ 0 → ⊥) → v ≡ Accepted
+  part-accepted some = not-refused v (λ x e. some (ap length (shown ∙ empty .1 (x, e))))
+
 -- ---- a place
 
 module _ (h : Shelf) (image : List ℕ) (d o : ℕ) where
   abbrev v : Verdict
   v = firstBroken (placeRules h (length image) d o)
 
-  -- the empty part is a refusal, any other an accepted call
   module _ {part : List ℕ} (shown : part ≡ placeShown h image d o) where
     pub start-refused : length part ≡ 0 → refusedStart ≡ placeStart h (length image) d o
     unfolding placeStart
-    start-refused e = sym (by-refused _ _ (place-empty h image d o .0 (sym shown ∙ none-is part e) .1))
+    start-refused e = part-refused shown (place-empty h image d o) _ _ e
 
     module _ (some : length part ≡ 0 → ⊥) where
       place-accepted : v ≡ Accepted
-      place-accepted = not-refused v (λ x e. some (ap length (shown ∙ place-empty h image d o .1 (x, e))))
+      place-accepted = part-accepted shown (place-empty h image d o) some
 
-      pub place-call : PlaceCall h image d o
+      place-call : PlaceCall h image d o
       place-call = show-place-accepted h image d o .0 place-accepted
+
+      -- so the place is one of the shelf's
+      pub place-there : (isShelf h ≡ true) × (d < h .v) × (o < depth h)
+      place-there = (place-call .stored .shelf, place-call .disk, place-call .offset)
 
       pub start-at : (d * depth h + o) * unitSize h ≡ placeStart h (length image) d o
       unfolding placeStart
@@ -83,11 +96,11 @@ module _ (h : Shelf) (image : List ℕ) (a : ℕ) (other : List ℕ) where
   module _ {part : List ℕ} (shown : part ≡ addressShown h image a other) where
     pub address-refused : length part ≡ 0 → refusedStart ≡ addressStart h (length image) a (length other)
     unfolding addressStart
-    address-refused e = sym (by-refused _ _ (address-empty h image a other .0 (sym shown ∙ none-is part e) .1))
+    address-refused e = part-refused shown (address-empty h image a other) _ _ e
 
     module _ (some : length part ≡ 0 → ⊥) where
       address-accepted : verdict ≡ Accepted
-      address-accepted = not-refused verdict (λ x e. some (ap length (shown ∙ address-empty h image a other .1 (x, e))))
+      address-accepted = part-accepted shown (address-empty h image a other) some
 
       pub address-call : UnitCall h image a other
       address-call = unit-accepted h image a other .0 address-accepted

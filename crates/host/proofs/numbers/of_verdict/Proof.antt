@@ -1,12 +1,13 @@
 -- `host::numbers::of_verdict` meets its contract: each arm is told the verdict. Assumes nothing.
 use borrow.Author.Needs.{needs}
+use mathlib.Core.Path.{refl}
 use Rattle.host.specs.Answers.{numberOf}
 use Rattle.host.proofs.numbers.of_verdict.Statement.{statement}
 use Rattle.host.proofs.numbers.of_verdict.Tie as tie
 
 returns : tie.Need-returns
 unfolding numberOf
-returns c = rw (c .enum-told .given .1)
+returns c = rw (c .enum-told .given .1) refl
 
 returns-2 : tie.Need-returns-2
 unfolding numberOf

@@ -7,15 +7,6 @@ use Rattle.host.specs.Numbers.{withNumber}
 use Rattle.host.proofs.numbers.put.Statement.{statement}
 use Rattle.host.proofs.numbers.put.Tie as tie
 
-slice-write-bytes-2 : tie.Need-slice-write-bytes-2
-slice-write-bytes-2 c = simp length-set (omega arith)
-
-slice-write-bytes-3 : tie.Need-slice-write-bytes-3
-slice-write-bytes-3 c = simp length-set (omega arith)
-
-slice-write-bytes-4 : tie.Need-slice-write-bytes-4
-slice-write-bytes-4 c = simp length-set (omega arith)
-
 returns : tie.Need-returns
 unfolding withNumber
 returns c = refl
@@ -29,12 +20,12 @@ put-spec =
     (λ c. search needs)
     (λ c. search needs)
     (λ c. search needs)
-    slice-write-bytes-2
+    (λ c. simp length-set (omega arith))
     (λ c. search needs)
     (λ c. search needs)
-    slice-write-bytes-3
+    (λ c. simp length-set (omega arith))
     (λ c. search needs)
     (λ c. search needs)
-    slice-write-bytes-4
+    (λ c. simp length-set (omega arith))
     (λ c. search needs)
     returns)

@@ -1,10 +1,9 @@
 -- `host::places::put_spot` meets its contract: each number is put after those before it. Assumes nothing.
 use borrow.Author.Needs.{needs}
-use mathlib.Core.Path.{refl, sym}
+use mathlib.Core.Path.{refl}
 use Prim.Native.Nat.{_*_}
-use native.Mathlib.Nat.{add-zero}
 use Rattle.host.specs.Places.{spotNumbers}
-use Rattle.host.proofs.Numbering.{numbered-none, numbered-put}
+use Rattle.host.proofs.Numbering.{numbered-one, numbered-put}
 use Rattle.host.proofs.places.put_spot.Statement.{statement}
 use Rattle.host.proofs.places.put_spot.Tie as tie
 
@@ -18,7 +17,7 @@ returns c =
     let start = at-put .before .before .before in
     let out = start .args .out .now in
     let at = 4 * start .args .i in
-    let disk = numbered-put out at _ _ (at-put .put .ensures) (numbered-none out at) (sym (add-zero at)) in
+    let disk = numbered-one out at _ (at-put .put .ensures) in
     let offset = numbered-put out at _ _ (at-put2 .put2 .ensures) disk refl in
     let parity-disk = numbered-put out at _ _ (at-put3 .put3 .ensures) offset refl in
     numbered-put out at _ _ (at-put4 .put4 .ensures) parity-disk refl

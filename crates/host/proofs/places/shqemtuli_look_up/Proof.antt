@@ -1,6 +1,10 @@
 -- `host::shqemtuli_look_up` meets its contract: what is given and left is as the answer says. Assumes nothing.
 use borrow.Author.Needs.{needs}
-use mathlib.Core.Path.{refl}
+use mathlib.Core.Path.{_≡_, refl}
+use mathlib.Core.List.{List, [], _∷_}
+use Prim.Native.Nat.{ℕ}
+use Rattle.host.specs.Numbers.{numbered}
+use Rattle.host.specs.Places.{HostLookedUp, lookUpNumber, lookUpInto}
 use Rattle.host.proofs.Answering.{into-other, into-fits}
 use Rattle.host.proofs.Spotted.{found-data, found-parity, found-refused}
 use Rattle.host.proofs.places.shqemtuli_look_up.Statement.{statement}
@@ -9,31 +13,37 @@ use Rattle.host.proofs.places.shqemtuli_look_up.Tie as tie
 returns : tie.Need-returns
 returns c = into-other (c .if1 .taken) refl refl
 
+abbrev start : tie.After-look-up → tie.Start
+start c = c .before .before .before .before .before
+
+-- what the call below answers is given and left
+answered : (c : tie.After-look-up) {r : ℕ} {out′ : List ℕ}
+    → (r ≡ lookUpNumber (c .look-up .result)) × (out′ ≡ lookUpInto (c .look-up .result) (start c .args .out .now))
+    → HostLookedUp (start c .args .shelf .now) (start c .args .disk) (start c .args .offset) (start c .args .out .now) r out′
+answered c given = rw (← c .before .shelf .ensures, ← c .look-up .ensures) (into-fits (c .before .before .if1 .left) given)
+
 returns-2 : tie.Need-returns-2
 returns-2 c =
     let at-put-three = c .before .before in
     let at-found = at-put-three .before .before .before in
-    let at-look-up = at-found .before .before in
-    let at-shelf = at-look-up .before in
-    let passed = at-shelf .before in
-    rw (← at-shelf .shelf .ensures, ← at-look-up .look-up .ensures) (into-fits (passed .if1 .left) (found-data _ (at-found .found .given .1) (at-put-three .put-three .ensures)))
+    answered (at-found .before .before) (found-data _ (at-found .found .given .1) (at-put-three .put-three .ensures))
+
+-- of a parity unit: its stripe, no address, and 1
+parity-put : (c : tie.After-put-three2) →
+    let at-found2 = c .before .before .before in
+    c .put-three2 .last .0 ≡ numbered (start (at-found2 .before .before) .args .out .now) 0 (at-found2 .found2 .given .0 .0 ∷ 0 ∷ 1 ∷ [])
+parity-put c = c .put-three2 .ensures
 
 returns-3 : tie.Need-returns-3
 returns-3 c =
     let at-put-three2 = c .before .before in
     let at-found2 = at-put-three2 .before .before .before in
-    let at-look-up = at-found2 .before .before in
-    let at-shelf = at-look-up .before in
-    let passed = at-shelf .before in
-    rw (← at-shelf .shelf .ensures, ← at-look-up .look-up .ensures) (into-fits (passed .if1 .left) (found-parity _ (at-found2 .found2 .given .1) (at-put-three2 .put-three2 .ensures)))
+    answered (at-found2 .before .before) (found-parity _ (at-found2 .found2 .given .1) (parity-put at-put-three2))
 
 returns-4 : tie.Need-returns-4
 returns-4 c =
     let at-found3 = c .before .before in
-    let at-look-up = at-found3 .before .before in
-    let at-shelf = at-look-up .before in
-    let passed = at-shelf .before in
-    rw (← at-shelf .shelf .ensures, ← at-look-up .look-up .ensures) (into-fits (passed .if1 .left) (found-refused _ (at-found3 .found3 .given .1) (c .number .ensures)))
+    answered (at-found3 .before .before) (found-refused _ (at-found3 .found3 .given .1) (c .number .ensures))
 
 pub shqemtuli-look-up-spec : {M : Type 1} → statement M
 shqemtuli-look-up-spec =

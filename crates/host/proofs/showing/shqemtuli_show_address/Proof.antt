@@ -1,7 +1,7 @@
 -- `host::shqemtuli_show_address` meets its contract: the lengths of the two parts tell the three cases. Assumes nothing.
 use borrow.Author.Needs.{needs}
 use mathlib.Core.Path.{_∙_}
-use Rattle.host.proofs.Starts.{place-call, address-refused, address-call, address-second, address-here}
+use Rattle.host.proofs.Starts.{place-there, address-refused, address-call, address-second, address-here}
 use Rattle.host.proofs.showing.shqemtuli_show_address.Statement.{statement}
 use Rattle.host.proofs.showing.shqemtuli_show_address.Tie as tie
 
@@ -24,9 +24,7 @@ returns-2 c =
     rw (← at-show-address .before .shelf .ensures) (address-second _ _ _ _ (at-show-address .show-address .ensures) (passed .if1 .left) (at-spot .spot .ensures) (at-show-place .show-place .ensures) (c .if2 .taken))
 
 start-requires : tie.Need-start-requires
-start-requires c κs =
-    let w = place-call _ _ _ _ (c .before .show-place .ensures) (c .if2 .left) in
-    (w .stored .shelf, w .disk, w .offset)
+start-requires c κs = place-there _ _ _ _ (c .before .show-place .ensures) (c .if2 .left)
 
 returns-3 : tie.Need-returns-3
 returns-3 c =

@@ -1,7 +1,7 @@
 -- `host::shqemtuli_show_place` meets its contract: the length of the part tells whether it is refused. Assumes nothing.
 use borrow.Author.Needs.{needs}
 use mathlib.Core.Path.{_∙_}
-use Rattle.host.proofs.Starts.{place-call, start-refused, start-at}
+use Rattle.host.proofs.Starts.{place-there, start-refused, start-at}
 use Rattle.host.proofs.showing.shqemtuli_show_place.Statement.{statement}
 use Rattle.host.proofs.showing.shqemtuli_show_place.Tie as tie
 
@@ -11,9 +11,7 @@ returns c =
     rw (← at-show-place .before .shelf .ensures) (start-refused _ _ _ _ (at-show-place .show-place .ensures) (c .if1 .taken))
 
 start-requires : tie.Need-start-requires
-start-requires c κs =
-    let w = place-call _ _ _ _ (c .before .show-place .ensures) (c .if1 .left) in
-    (w .stored .shelf, w .disk, w .offset)
+start-requires c κs = place-there _ _ _ _ (c .before .show-place .ensures) (c .if1 .left)
 
 returns-2 : tie.Need-returns-2
 returns-2 c =

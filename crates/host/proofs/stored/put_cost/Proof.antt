@@ -1,7 +1,7 @@
 -- `host::stored::put_cost` meets its contract: each count is put after those before it. Assumes nothing.
 use borrow.Author.Needs.{needs}
 use mathlib.Core.Path.{refl}
-use Rattle.host.proofs.Numbering.{numbered-none, numbered-put}
+use Rattle.host.proofs.Numbering.{numbered-one, numbered-put}
 use Rattle.host.proofs.stored.put_cost.Statement.{statement}
 use Rattle.host.proofs.stored.put_cost.Tie as tie
 
@@ -11,7 +11,7 @@ returns c =
     let at-put = at-put2 .before .before .before .before in
     let start = at-put .before .before .before in
     let cost = start .args .cost .now in
-    let read = numbered-put cost 0 _ _ (at-put .put .ensures) (numbered-none cost 0) refl in
+    let read = numbered-one cost 0 _ (at-put .put .ensures) in
     (c .of-verdict .ensures, numbered-put cost 0 _ _ (at-put2 .put2 .ensures) read refl)
 
 pub put-cost-spec : {M : Type 1} → statement M

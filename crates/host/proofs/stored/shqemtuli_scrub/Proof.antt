@@ -2,7 +2,7 @@
 use borrow.Author.Needs.{needs}
 use mathlib.Core.Path.{refl}
 use native.Mathlib.Omega.{arith}
-use Rattle.host.proofs.Numbering.{numbered-none, numbered-put}
+use Rattle.host.proofs.Numbering.{numbered-one}
 use Rattle.host.proofs.Answering.{into-other, into-fits}
 use Rattle.host.proofs.stored.shqemtuli_scrub.Statement.{statement}
 use Rattle.host.proofs.stored.shqemtuli_scrub.Tie as tie
@@ -21,7 +21,7 @@ returns-2 c =
     let passed = at-shelf .before in
     let start = passed .before .before .before .before in
     let out = start .args .out .now in
-    let wrong = numbered-put out 0 _ _ (at-put .put .ensures) (numbered-none out 0) refl in
+    let wrong = numbered-one out 0 _ (at-put .put .ensures) in
     rw (← at-shelf .shelf .ensures, ← at-scrub .scrub .ensures) (into-fits (passed .if1 .left) (c .of-verdict .ensures, wrong))
 
 pub shqemtuli-scrub-spec : {M : Type 1} → statement M

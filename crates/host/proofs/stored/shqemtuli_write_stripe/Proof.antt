@@ -1,7 +1,7 @@
 -- `host::shqemtuli_write_stripe` meets its contract: it is told what the call below promises. Assumes nothing.
 use borrow.Author.Needs.{needs}
 use mathlib.Core.Path.{refl}
-use Rattle.host.proofs.Answering.{into-other, into-fits, told}
+use Rattle.host.proofs.Answering.{into-other, told-fits}
 use Rattle.host.proofs.stored.shqemtuli_write_stripe.Statement.{statement}
 use Rattle.host.proofs.stored.shqemtuli_write_stripe.Tie as tie
 
@@ -14,7 +14,7 @@ returns-2 c =
     let at-write-stripe = at-put-cost .before .before .before .before in
     let at-shelf = at-write-stripe .before .before in
     let passed = at-shelf .before in
-    rw (← at-shelf .shelf .ensures) (into-fits (passed .if1 .left) (told _ (at-write-stripe .write-stripe .ensures) (at-put-cost .put-cost .ensures)))
+    rw (← at-shelf .shelf .ensures) (told-fits (passed .if1 .left) _ (at-write-stripe .write-stripe .ensures) (at-put-cost .put-cost .ensures))
 
 pub shqemtuli-write-stripe-spec : {M : Type 1} → statement M
 shqemtuli-write-stripe-spec =

@@ -1,12 +1,13 @@
 -- `host::value::loss_number` meets its contract: each arm is told the loss. Assumes nothing.
 use borrow.Author.Needs.{needs}
+use mathlib.Core.Path.{refl}
 use Rattle.host.specs.Value.{lossNumber}
 use Rattle.host.proofs.value.loss_number.Statement.{statement}
 use Rattle.host.proofs.value.loss_number.Tie as tie
 
 returns : tie.Need-returns
 unfolding lossNumber
-returns c = rw (c .enum-told .given .1)
+returns c = rw (c .enum-told .given .1) refl
 
 returns-2 : tie.Need-returns-2
 unfolding lossNumber

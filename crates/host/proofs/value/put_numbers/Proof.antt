@@ -2,7 +2,7 @@
 use borrow.Author.Needs.{needs}
 use mathlib.Core.Path.{refl, sym}
 use Rattle.host.specs.Value.{numbersIn}
-use Rattle.host.proofs.Numbering.{numbered-none, numbered-put}
+use Rattle.host.proofs.Numbering.{numbered-one, numbered-put}
 use Rattle.host.proofs.value.put_numbers.Statement.{statement}
 use Rattle.host.proofs.value.put_numbers.Tie as tie
 
@@ -20,7 +20,7 @@ returns c =
     let at-put = at-put2 .before .before .before .before in
     let start = at-put .before .before .before in
     let bytes = start .args .bytes .now in
-    let v = numbered-put bytes 0 _ _ (at-put .put .ensures) (numbered-none bytes 0) refl in
+    let v = numbered-one bytes 0 _ (at-put .put .ensures) in
     let k = numbered-put bytes 0 _ _ (at-put2 .put2 .ensures) v refl in
     let b = numbered-put bytes 0 _ _ (at-put3 .put3 .ensures) k refl in
     let T = numbered-put bytes 0 _ _ (at-put4 .put4 .ensures) b refl in
