@@ -62,7 +62,7 @@ module _ (h : Shelf) (ok : isShelf h ≡ true) (a : ℕ) (below : a < addresses 
   unfolding spotOf
   spot-offset-lt = rw (sym (ap (offsetOf (layoutIn h) s) here), sym (offset-home h ok s j hs hj)) (mod-lt (unitIn h s j) (depth-pos h ok))
 
-  spot-disk : spotOf (layoutIn h) a .disk ≡ diskAt h (unitIn h s j)
+  pub spot-disk : spotOf (layoutIn h) a .disk ≡ diskAt h (unitIn h (stripeOf (layoutIn h) a) (jOf (layoutIn h) a))
   unfolding spotOf
   spot-disk = sym (ap (diskOf (layoutIn h) s) here) ∙ sym (disk-home h ok s j hs hj)
 
@@ -73,10 +73,6 @@ module _ (h : Shelf) (ok : isShelf h ≡ true) (a : ℕ) (below : a < addresses 
   unfolding present
   spot-present = ap (presentOn (h .loss)) spot-disk
 
-  parity-disk : spotOf (layoutIn h) a .«parity_disk» ≡ diskAt h (unitIn h s (h .k - 1))
+  pub parity-disk : spotOf (layoutIn h) a .«parity_disk» ≡ diskAt h (unitIn h (stripeOf (layoutIn h) a) (h .k - 1))
   unfolding spotOf
   parity-disk = sym (ap (diskOf (layoutIn h) s) (position-parity h s)) ∙ sym (disk-home h ok s (h .k - 1) hs parity-lt)
-
-  pub parity-present : presentOn (h .loss) (spotOf (layoutIn h) a .«parity_disk») ≡ present h (unitIn h (stripeOf (layoutIn h) a) (h .k - 1))
-  unfolding present
-  parity-present = ap (presentOn (h .loss)) parity-disk

@@ -20,15 +20,15 @@ use design::Shelf;
 use design::Verdict;
 use placement::fast;
 
-// Where the unit of an address stands: its stripe and its index there, the numbers of the unit and of the stripe's parity in the
-// image, and whether their disks are present.
+// Where the unit of an address stands: its stripe and its index there, and the disk and the number in the image of the unit and of the
+// stripe's parity.
 struct Standing {
     stripe: usize,
     index: usize,
+    disk: usize,
     unit: usize,
+    parity_disk: usize,
     parity: usize,
-    unit_present: bool,
-    parity_present: bool,
 }
 
 fn standing_of(shelf: Shelf, address: usize) -> Standing
@@ -37,15 +37,14 @@ fn standing_of(shelf: Shelf, address: usize) -> Standing
 {
     let spot = fast::spot(shelf, address);
     let depth = fast::offsets(shelf);
-    let loss = shelf.loss;
     let count = shelf.k - 1;
     Standing {
         stripe: address / count,
         index: address % count,
+        disk: spot.disk,
         unit: spot.disk * depth + spot.offset,
+        parity_disk: spot.parity_disk,
         parity: spot.parity_disk * depth + spot.parity_offset,
-        unit_present: presence::is_present(loss, spot.disk),
-        parity_present: presence::is_present(loss, spot.parity_disk),
     }
 }
 
@@ -55,7 +54,8 @@ pub fn fetch(shelf: Shelf, image: &[u8], address: usize, buffer: &mut [u8]) -> u
     ensures { λ r. ⌜ (r ≡ readCost shelf (stripeOf (layoutIn shelf) address) (jOf (layoutIn shelf) address)) × (now (buffer .exit) ≡ fetched shelf (now (image .entry)) (stripeOf (layoutIn shelf) address) (jOf (layoutIn shelf) address)) ⌝ }
 {
     let at = standing_of(shelf, address);
-    if at.unit_present {
+    let loss = shelf.loss;
+    if presence::is_present(loss, at.disk) {
         units::load(buffer, image, at.unit);
         return 1;
     }
@@ -80,7 +80,8 @@ pub fn store(shelf: Shelf, image: &mut [u8], address: usize, unit: &[u8]) -> Cos
     ensures { λ r. ⌜ (r ≡ costs Accepted (writeReads shelf (stripeOf (layoutIn shelf) address) (jOf (layoutIn shelf) address)) (writeWrites shelf (stripeOf (layoutIn shelf) address) (jOf (layoutIn shelf) address))) × (now (image .exit) ≡ unitWritten shelf (now (image .entry)) (stripeOf (layoutIn shelf) address) (jOf (layoutIn shelf) address) (now (unit .entry))) ⌝ }
 {
     let at = standing_of(shelf, address);
-    if !at.parity_present {
+    let loss = shelf.loss;
+    if !presence::is_present(loss, at.parity_disk) {
         units::store(image, at.unit, unit);
         return Cost {
             verdict: Verdict::Accepted,
@@ -88,7 +89,7 @@ pub fn store(shelf: Shelf, image: &mut [u8], address: usize, unit: &[u8]) -> Cos
             written: 1,
         };
     }
-    if !at.unit_present {
+    if !presence::is_present(loss, at.disk) {
         store_lost(shelf, image, at.stripe, at.index, unit);
         return Cost {
             verdict: Verdict::Accepted,

@@ -11,24 +11,19 @@ use Rattle.parity.specs.declared.storing.Standing.{Standing}
 use Rattle.parity.specs.declared.Shape.{Shape}
 use Rattle.parity.specs.Units.{xorSum, put}
 use Rattle.parity.specs.inner.Stores.{putUnit}
-use Rattle.parity.specs.Stripe.{unitSize, depth, imageSize, unitIn, present, cell}
+use Rattle.parity.specs.Stripe.{unitSize, depth, imageSize, unitIn, diskAt, cell}
 
 abbrev pub shapeIn : Shelf → Shape
 shapeIn h = record { k = h .k; b = h .b; r = h .r; depth = depth h; size = unitSize h }
 
--- the stripe of an address and its index there, the units of both in the image, and whether they are present
+-- the stripe of an address and its index there, and the disks and the units of both in the image
 unfoldable pub standingIn : Shelf → ℕ → Standing
 standingIn h a =
     let s : ℕ = stripeOf (layoutIn h) a in
     let j : ℕ = jOf (layoutIn h) a in
-    record {
-      stripe = s;
-      index = j;
-      unit = unitIn h s j;
-      parity = unitIn h s (h .k - 1);
-      «unit_present» = present h (unitIn h s j);
-      «parity_present» = present h (unitIn h s (h .k - 1));
-    }
+    let unit : ℕ = unitIn h s j in
+    let parity : ℕ = unitIn h s (h .k - 1) in
+    record { stripe = s; index = j; disk = diskAt h unit; unit = unit; «parity_disk» = diskAt h parity; parity = parity }
 
 -- the parity of stripe s becomes the exclusive-or of the data with x for data j
 unfoldable pub resealed : Shelf → List ℕ → ℕ → ℕ → List ℕ → List ℕ

@@ -1,11 +1,9 @@
--- `parity::storing::standing_of` meets its contract: a place is a number by the region of its disk, and present as its disk is.
--- Assumes nothing.
+-- `parity::storing::standing_of` meets its contract: a place is a number by the region of its disk. Assumes nothing.
 use Prim.Native.Nat.{_+_, _*_, _^_, _≤_, _<_}
 use native.Mathlib.Omega.{arith}
-use borrow.Author.Needs.{needs}
 use Rattle.design.proofs.ShelfTests.{shelf-parts}
 use Rattle.parity.specs.inner.Shapes.{standingIn}
-use Rattle.parity.proofs.Spots.{spot-unit, spot-small, spot-present, spot-parity, parity-small, parity-present}
+use Rattle.parity.proofs.Spots.{spot-unit, spot-small, spot-disk, spot-parity, parity-small, parity-disk}
 use Rattle.parity.proofs.storing.standing_of.Statement.{statement}
 use Rattle.parity.proofs.storing.standing_of.Tie as tie
 
@@ -24,12 +22,11 @@ bounds c =
 returns : tie.Need-returns
 unfolding standingIn
 returns c =
-    let at = c .before .before .before .before .before .before .before in
+    let at = c .before .before .before .before .before in
     let s = at .before .before in
     let ok = s .pre .0 in
     let below = s .pre .1 in
-    rw (c .is-present2 .ensures, c .before .is-present .ensures, at .offsets .ensures, at .before .spot .ensures)
-    (rw (spot-unit _ ok _ below, spot-parity _ ok _ below, spot-present _ ok _ below, parity-present _ ok _ below))
+    rw (at .offsets .ensures, at .before .spot .ensures) (rw (spot-unit _ ok _ below, spot-disk _ ok _ below, spot-parity _ ok _ below, parity-disk _ ok _ below))
 
 pub standing-of-spec : {M : Type 1} → statement M
 standing-of-spec =
@@ -44,6 +41,4 @@ standing-of-spec =
     (λ c. omega (arith, bounds (c .before .before .before)))
     (λ c. omega (arith, bounds (c .before .before .before .before)))
     (λ c. omega (arith, bounds (c .before .before .before .before .before)))
-    (λ c κs. search needs)
-    (λ c κs. search needs)
     returns)

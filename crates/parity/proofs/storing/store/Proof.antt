@@ -1,4 +1,5 @@
 -- `parity::storing::store` meets its contract: where the unit and the parity stand, and then one of three ways to write. Assumes nothing.
+use mathlib.Core.Path.{sym, _∙_}
 use native.Mathlib.Omega.{arith}
 use borrow.Author.Tests.{not-true, not-false}
 use borrow.Author.Needs.{needs}
@@ -20,19 +21,21 @@ returns : tie.Need-returns
 returns c =
     let lost = c .before .before .before .before in
     let at = lost .before .before in
-    write-parity-lost (start at .pre) (at .standing-of .ensures) (not-true _ (lost .if1 .taken)) (c .before .before .store .ensures)
+    write-parity-lost (start at .pre) (at .standing-of .ensures) (sym (lost .before .is-present .ensures) ∙ not-true _ (lost .if1 .taken)) (c .before .before .store .ensures)
 
 store-lost-requires : tie.Need-store-lost-requires
 store-lost-requires c κs = let at = c .before .before .before .before .before in data-call (start at .pre) (at .standing-of .ensures)
 
-sub-t15 : tie.Need-sub-t15
-sub-t15 c = omega (arith, call-data-lt (start (c .before .before .before .before .before .before .before .before .before) .pre))
+sub-t17 : tie.Need-sub-t17
+sub-t17 c = omega (arith, call-data-lt (start (c .before .before .before .before .before .before .before .before .before) .pre))
 
 returns-2 : tie.Need-returns-2
 returns-2 c =
     let lost = c .before .before .before .before .before in
     let at = lost .before .before .before .before in
-    write-data-lost (start at .pre) (at .standing-of .ensures) (not-true _ (lost .if2 .taken)) (c .before .before .before .store-lost .ensures)
+    write-data-lost (start at .pre) (at .standing-of .ensures)
+    (sym (lost .before .is-present2 .ensures) ∙ not-true _ (lost .if2 .taken))
+    (c .before .before .before .store-lost .ensures)
 
 renew-requires : tie.Need-renew-requires
 renew-requires c κs =
@@ -45,8 +48,8 @@ returns-3 c =
     let parity-there = there .before .before in
     let at = parity-there .before .before in
     write-here (start at .pre) (at .standing-of .ensures)
-    (not-false _ (there .if2 .left))
-    (not-false _ (parity-there .if1 .left))
+    (sym (there .before .is-present2 .ensures) ∙ not-false _ (there .if2 .left))
+    (sym (parity-there .before .is-present .ensures) ∙ not-false _ (parity-there .if1 .left))
     (c .before .before .renew .ensures)
 
 pub store-spec : {M : Type 1} → statement M
@@ -54,11 +57,13 @@ store-spec =
     tie.close
     (tie.spec
     standing-of-requires
+    (λ c κs. search needs)
     store-requires
     (λ c. search needs)
     returns
+    (λ c κs. search needs)
     store-lost-requires
-    sub-t15
+    sub-t17
     (λ c. search needs)
     returns-2
     renew-requires
