@@ -14,7 +14,7 @@ use Rattle.design.specs.declared.Shelf.{Shelf}
 use Rattle.design.specs.Shelf.{isShelf}
 use Rattle.design.proofs.Counting.{both, both-of}
 use Rattle.placement.specs.Layout.{layoutIn, stripes}
-use Rattle.parity.specs.Units.{unitAt, xorU, put}
+use Rattle.parity.specs.Units.{unitAt, xorU}
 use Rattle.parity.specs.Stripe.{unitSize, units, imageSize, unitIn, diskAt, stripeHere, indexHere, present, cell}
 use Rattle.parity.specs.Calls.{onDisk, fetched, newParity, unitWritten, stripeWritten, rebuiltImage}
 use Rattle.parity.proofs.Cases.{cases, put-ext}
@@ -74,8 +74,8 @@ module _ (h : Shelf) (ok : isShelf h ≡ true) (a b : List ℕ) where
         lost : present h (unitIn h s j) ≡ false → newParity h a s j x ≡ newParity h b s j x
         lost p =
             rw p
-            (xorSum-ext (unitSize h) (put (cell h a s) j x) (put (cell h b s) j x) (h .k - 1)
-            (λ i hi. put-ext (cell h a s) (cell h b s) j x i
+            (xorSum-ext (unitSize h) _ _ (h .k - 1)
+            (λ i hi. put-ext (cell h a s) (cell h b s) _ x i
             (λ nd. let np : i ≢ h .k - 1 = omega arith in at i (omega arith) (rw (p, ne-eqb i j nd, ne-eqb i (h .k - 1) np)))))
 
     module _ (la : length a ≡ imageSize h) (lb : length b ≡ imageSize h) (hx : length x ≡ unitSize h) where
@@ -107,9 +107,9 @@ module _ (h : Shelf) (ok : isShelf h ≡ true) (a b : List ℕ) where
       → Agree h (λ n. not (present h n)) (rebuiltImage h a) (rebuiltImage h b)
   unfolding rebuiltImage rebuildSet
   rebuild-defined d lost la lb same n hn t =
-      patch-on h a la _ _ (restored-sized h ok a la) n hn t
+      patch-on h a la _ _ (restored-sized h ok a la _) n hn t
       ∙ others-ext h a b (stripeHere h n) (indexHere h n) other
-      ∙ sym (patch-on h b lb _ _ (restored-sized h ok b lb) n hn t)
+      ∙ sym (patch-on h b lb _ _ (restored-sized h ok b lb _) n hn t)
     where
       s : ℕ
       s = stripeHere h n

@@ -8,7 +8,7 @@ use native.Mathlib.Nat.{mod-lt, mul-pos, div-add-mod', div-lt-iff-lt-mul}
 use native.Mathlib.Omega.{arith}
 use lib.Arith.{digits-lt, digits-div, digits-mod}
 use lib.Dec.{eqb}
-use borrow.Author.Tests.{eqb-true, not-false}
+use borrow.Author.Tests.{eqb-true}
 use Rattle.design.specs.declared.Loss.{Loss}
 use Rattle.design.specs.declared.Loss.the-variants.{Nothing, Disk}
 use Rattle.design.specs.declared.Shelf.{Shelf}
@@ -24,9 +24,12 @@ use Rattle.parity.proofs.Index.{indexOf, position-in-lt, index-position
 
 -- ---- the lost disk
 
+absent-is : (x d : ℕ) → presentOn (Disk x) d ≡ false → d ≡ x
+absent-is x d a = cases (eqb d x) (eqb-true d x) (λ p. let there : presentOn (Disk x) d ≡ true = simp p in absurd (true≢false (sym there ∙ a)))
+
 absent-disk : (loss : Loss) (d e : ℕ) → presentOn loss d ≡ false → presentOn loss e ≡ false → d ≡ e
 absent-disk Nothing d e a b = absurd (true≢false a)
-absent-disk (Disk x) d e a b = eqb-true d x (not-false (eqb d x) a) ∙ sym (eqb-true e x (not-false (eqb e x) b))
+absent-disk (Disk x) d e a b = absent-is x d a ∙ sym (absent-is x e b)
 
 pub whole-present : (h : Shelf) → h .loss ≡ Nothing → (n : ℕ) → present h n ≡ true
 unfolding present

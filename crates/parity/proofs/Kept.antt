@@ -38,4 +38,4 @@ module _ (h : Shelf) (ok : isShelf h ≡ true) (image : List ℕ) (len : length 
 
   pub rebuild-kept : Kept h (λ n. not (present h n)) image (rebuiltImage h image)
   unfolding rebuiltImage
-  rebuild-kept = record { size = rebuilt-length h ok image len; unit = patch-off h image len _ _ (restored-sized h ok image len) }
+  rebuild-kept = record { size = rebuilt-length h ok image len; unit = patch-off h image len _ _ (restored-sized h ok image len _) }

@@ -1,3 +1,4 @@
+pub mod Rising
 pub mod Cases
 pub mod Sized
 pub mod Ready
@@ -19,7 +20,6 @@ pub mod Stores
 pub mod UnitStores
 pub mod StripeStores
 pub mod Restores
-pub mod Rising
 pub mod Accepted
 pub mod Spots
 pub mod Verdicts

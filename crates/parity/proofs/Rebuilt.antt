@@ -1,7 +1,7 @@
 -- After a rebuild each unit of the lost disk is the exclusive-or of the others, every other unit is as it was, and each stripe
 -- that met the lost disk is right. Assumes nothing.
 use mathlib.Core.Path.{_≡_, sym, ap, ap₂, _∙_}
-use mathlib.Core.Bool.{true, false, not}
+use mathlib.Core.Bool.{Bool, true, false}
 use mathlib.Core.List.{List}
 use Prim.Native.Nat.{ℕ, _<_}
 use lib.Dec.{eqb}
@@ -30,12 +30,12 @@ module _ (h : Shelf) (ok : isShelf h ≡ true) (image : List ℕ) (len : length 
   abbrev restored : ℕ → List ℕ
   restored n = others h image (stripeHere h n) (indexHere h n)
 
-  pub restored-sized : Sized h (λ n. not (present h n)) (λ n. others h image (stripeHere h n) (indexHere h n))
-  restored-sized n hn e = others-length h ok image len (stripeHere h n) (indexHere h n) (stripeHere-lt h ok n hn)
+  pub restored-sized : (on : ℕ → Bool) → Sized h on (λ n. others h image (stripeHere h n) (indexHere h n))
+  restored-sized on n hn e = others-length h ok image len (stripeHere h n) (indexHere h n) (stripeHere-lt h ok n hn)
 
   pub rebuilt-length : length (rebuiltImage h image) ≡ imageSize h
   unfolding rebuiltImage
-  rebuilt-length = patch-length h image len (λ n. not (present h n)) restored restored-sized
+  rebuilt-length = patch-length h image len _ restored (restored-sized _)
 
   module _ (s i : ℕ) (hs : s < stripes (layoutIn h)) (hi : i < h .k) where
     at-home : restored (unitIn h s i) ≡ others h image s i
@@ -43,11 +43,11 @@ module _ (h : Shelf) (ok : isShelf h ≡ true) (image : List ℕ) (len : length 
 
     pub rebuilt-lost : present h (unitIn h s i) ≡ false → cell h (rebuiltImage h image) s i ≡ others h image s i
     unfolding rebuiltImage
-    rebuilt-lost e = cell-patch h ok image len _ restored restored-sized s i hs hi ∙ rw e at-home
+    rebuilt-lost e = cell-patch h ok image len _ restored (restored-sized _) s i hs hi ∙ rw e at-home
 
     pub rebuilt-kept : present h (unitIn h s i) ≡ true → cell h (rebuiltImage h image) s i ≡ cell h image s i
     unfolding rebuiltImage
-    rebuilt-kept e = cell-patch h ok image len _ restored restored-sized s i hs hi ∙ rw e
+    rebuilt-kept e = cell-patch h ok image len _ restored (restored-sized _) s i hs hi ∙ rw e
 
   -- the stripe of a lost unit is right
   pub rebuilt-right : (s i : ℕ) → s < stripes (layoutIn h) → i < h .k → present h (unitIn h s i) ≡ false → Right h (rebuiltImage h image) s

@@ -65,5 +65,5 @@ module _ (h : Shelf) (ok : isShelf h ≡ true) (image : List ℕ) (len : length 
       → Restored h image done now → now ≡ rebuiltImage h image
   unfolding rebuiltImage
   restored-all done now all R =
-      patched-is h image _ _ now len (restored-sized h ok image len)
+      patched-is h image _ _ now len (restored-sized h ok image len _)
       (restored-test done (λ n. true) now all R)

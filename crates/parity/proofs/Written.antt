@@ -11,7 +11,7 @@ use borrow.Author.Tests.{eq-eqb, ne-eqb, eqb-false}
 use Rattle.design.specs.declared.Shelf.{Shelf}
 use Rattle.design.specs.Shelf.{isShelf}
 use Rattle.placement.specs.Layout.{layoutIn, stripes}
-use Rattle.parity.specs.Units.{unitAt, xorU, put}
+use Rattle.parity.specs.Units.{unitAt, xorU}
 use Rattle.parity.specs.Stripe.{unitSize, imageSize, unitIn, indexHere, present, cell}
 use Rattle.parity.specs.Calls.{newParity, unitWritten, withParity, stripeWritten}
 use Rattle.parity.proofs.Cases.{cases, put-each}
@@ -41,8 +41,8 @@ module _ (h : Shelf) (ok : isShelf h ≡ true) (image : List ℕ) (len : length 
         lost : present h (unitIn h s j) ≡ false → length (newParity h image s j x) ≡ unitSize h
         lost e =
             rw e
-            (xorSum-length (unitSize h) (put (cell h image s) j x) (h .k - 1)
-            (λ i hi. put-each (cell h image s) j x (λ (y : List ℕ). length y ≡ unitSize h) i (λ p. hx) (λ p. size i (omega arith))))
+            (xorSum-length (unitSize h) _ (h .k - 1)
+            (λ i hi. put-each (cell h image s) _ x (λ (y : List ℕ). length y ≡ unitSize h) i (λ p. hx) (λ p. size i (omega arith))))
 
     new-length : (i : ℕ) → length (cond (eqb i j) x (newParity h image s j x)) ≡ unitSize h
     new-length i = cases (eqb i j) (λ e. rw e hx) (λ e. rw e new-parity-length)

@@ -9,6 +9,7 @@ use borrow.Author.Tests.{lt-ltb, ltb-true, le-ltb, ltb-false}
 use Rattle.design.proofs.Counting.{decided}
 use Rattle.placement.specs.Layout.{Layout, parityOf, positionOf}
 use Rattle.placement.proofs.Even.{Even}
+use Rattle.placement.proofs.Row.{copy-lt}
 
 -- ---- stepping over the parity at p
 
@@ -93,7 +94,7 @@ pub record DataAt (L : Layout) (s x j : ℕ) : Type 0 where
 
 module _ (L : Layout) (E : Even L) (s : ℕ) where
   pub parity-lt : parityOf L s < L .k
-  parity-lt = omega (arith, E .k-least)
+  parity-lt = omega (arith, E .k-least, copy-lt L E s)
 
   pub position-lt : (j : ℕ) → j < L .k - 1 → positionOf L s j < L .k
   position-lt j h = omega (arith, over-lt (parityOf L s) j (L .k - 1) h)
