@@ -67,4 +67,4 @@ known =
       judging onePair,
       ap (nthVerdict 3) verdicts,
       ap (nthVerdict 4) verdicts,
-    ) refl
+    )

@@ -1,4 +1,3 @@
-pub mod Rising
 pub mod Cases
 pub mod Sized
 pub mod Ready
@@ -20,6 +19,7 @@ pub mod Stores
 pub mod UnitStores
 pub mod StripeStores
 pub mod Restores
+pub mod Rising
 pub mod Accepted
 pub mod Spots
 pub mod Verdicts

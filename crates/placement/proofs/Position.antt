@@ -108,7 +108,7 @@ module _ (L : Layout) (E : Even L) (s : ℕ) where
   -- every position but the parity's is that of one data unit
   pub data-at : (x : ℕ) → x < L .k → x ≢ parityOf L s → DataAt L s x (under (parityOf L s) x)
   data-at x h ne = record {
-    below = under-lt (parityOf L s) x ne (L .k - 1) (omega arith) (omega arith);
+    below = under-lt (parityOf L s) x ne (L .k - 1) (omega (arith, parity-lt)) (omega arith);
     stands = over-under (parityOf L s) x ne;
     only = λ i e. position-inj i (under (parityOf L s) x) (e ∙ sym (over-under (parityOf L s) x ne));
   }
