@@ -106,14 +106,18 @@ count-mono f i (suc n) h = go (eq-or-lt-of-le h) (λ l. count-mono f i n (le-of-
 pub count-lt : (f : ℕ → Bool) (i n : ℕ) → i < n → f i ≡ true → count f i < count f n
 count-lt f i n h e = omega (arith, count-mono f (suc i) n h, count-true f i e)
 
--- two that pass and have as many before them are one
-pub count-inj : (f : ℕ → Bool) (i j : ℕ) → f i ≡ true → f j ≡ true → count f i ≡ count f j → i ≡ j
-count-inj f i j hi hj e = go (decided (ltb i j)) (decided (ltb j i))
+-- two numbers of which neither is below the other are one
+pub neither-below : (i j : ℕ) → (i < j → ⊥) → (j < i → ⊥) → i ≡ j
+neither-below i j p q = go (decided (ltb i j)) (decided (ltb j i))
   where
     go : (ltb i j ≡ true) ⊎ (ltb i j ≡ false) → (ltb j i ≡ true) ⊎ (ltb j i ≡ false) → i ≡ j
-    go (inl a) y = absurd (let l = count-lt f i j (ltb-true i j a) hi in omega arith)
-    go (inr a) (inl b) = absurd (let l = count-lt f j i (ltb-true j i b) hj in omega arith)
+    go (inl a) y = absurd (p (ltb-true i j a))
+    go (inr a) (inl b) = absurd (q (ltb-true j i b))
     go (inr a) (inr b) = omega (arith, ltb-false i j a, ltb-false j i b)
+
+-- two that pass and have as many before them are one
+pub count-inj : (f : ℕ → Bool) (i j : ℕ) → f i ≡ true → f j ≡ true → count f i ≡ count f j → i ≡ j
+count-inj f i j hi hj e = neither-below i j (λ l. omega (arith, count-lt f i j l hi)) (λ l. omega (arith, count-lt f j i l hj))
 
 pub count-ext : (f g : ℕ → Bool) (n : ℕ) → ((i : ℕ) → i < n → f i ≡ g i) → count f n ≡ count g n
 unfolding count

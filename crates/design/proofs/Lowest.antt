@@ -3,7 +3,7 @@ use mathlib.Core.Path.{_≡_, refl, sym, ap, _∙_}
 use mathlib.Core.Logic.{_↔_, _⊎_, inl, inr}
 use mathlib.Core.Bool.{Bool, true, false, cond, _&&_, true≢false}
 use mathlib.Core.List.{List, [], _∷_}
-use Prim.Native.Nat.{ℕ, _≤_, _<_}
+use Prim.Native.Nat.{ℕ, zero, suc, _≤_, _<_}
 use native.Mathlib.Omega.{arith}
 use lib.Dec.{ltb, eqb}
 use lib.ListN.{getD}
@@ -49,6 +49,15 @@ numbered NoneLost = refl
 -- two refusals of one number are one
 pub number-inj : (x y : Refusal) → number x ≡ number y → x ≡ y
 number-inj x y e = sym (numbered x) ∙ ap (λ (n : ℕ). getD (ShortSheet ∷ refusals) n ShortSheet) e ∙ numbered y
+
+-- no refusal has the number 0 of an accepted call
+pub some-number : (x : Refusal) → 1 ≤ number x
+unfolding number
+some-number x = go (number x) refl
+  where
+    go : (n : ℕ) → number x ≡ n → 1 ≤ number x
+    go zero e = let first : x ≡ ShortSheet = sym (numbered x) ∙ ap (λ (n : ℕ). getD (ShortSheet ∷ refusals) n ShortSheet) e in omega (arith, ap number first)
+    go (suc n) e = omega arith
 
 never-both : (v : Verdict) (x : Refusal) → v ≡ Accepted → v ≡ Refused x → ⊥
 never-both v x a r = let z : true ≡ false = cc in true≢false z

@@ -10,7 +10,7 @@ use borrow.Author.Tests.{lt-ltb, ltb-true, ltb-false, eq-eqb, eqb-true, not-true
 use Rattle.design.specs.declared.Repeat.the-variants as Repeat
 use Rattle.design.specs.Count.{count, every, nth}
 use Rattle.design.specs.Tuples.{Design, inTable, Different, again, repeated, noneTwice}
-use Rattle.design.proofs.Counting.{decided, both, both-of, fails, every-at, every-of, count-lt, count-none, none-counted, nth-is, nth-count}
+use Rattle.design.proofs.Counting.{neither-below, decided, both, both-of, fails, every-at, every-of, count-lt, count-none, none-counted, nth-is, nth-count}
 
 -- ---- rule 6
 
@@ -55,16 +55,11 @@ pub once-different : (tuple : ℕ → ℕ) (k : ℕ) → (onceUpTo k tuple k ≡
 once-different tuple k = (different, once)
   where
     different : onceUpTo k tuple k ≡ true → Different tuple k
-    different e i j hi hj p = go (decided (ltb i j)) (decided (ltb j i))
+    different e i j hi hj p = neither-below i j (λ l. apart i j l hi hj p) (λ l. apart j i l hj hi (sym p))
       where
         apart : (i j : ℕ) → i < j → i < k → j < k → tuple i ≡ tuple j → ⊥
         apart i j h hi hj p =
             true≢false (sym (again-of tuple k i j h hj p) ∙ not-true (again tuple k i) (every-at k (λ i. not (again tuple k i)) e i hi))
-
-        go : (ltb i j ≡ true) ⊎ (ltb i j ≡ false) → (ltb j i ≡ true) ⊎ (ltb j i ≡ false) → i ≡ j
-        go (inl a) b = absurd (apart i j (ltb-true i j a) hi hj p)
-        go (inr a) (inl b) = absurd (apart j i (ltb-true j i b) hj hi (sym p))
-        go (inr a) (inr b) = omega (arith, ltb-false i j a, ltb-false j i b)
 
     once : Different tuple k → onceUpTo k tuple k ≡ true
     once h =

@@ -1,20 +1,18 @@
 -- Where 0 is given, the bytes that open, lose and rebuild leave hold the shelf that they promise. Assumes nothing.
 use mathlib.Core.Path.{_≡_, refl, sym, ap, _∙_}
 use mathlib.Core.List.{List}
-use Prim.Native.Nat.{ℕ, _*_, _≤_}
+use Prim.Native.Nat.{ℕ, _*_}
 use native.Mathlib.Omega.{arith}
 use lib.Dec.{eqb}
 use lib.ListN.{length}
 use borrow.Author.Tests.{eqb-true, eqb-false}
 use Rattle.design.specs.declared.Loss.the-variants.{Nothing, Disk}
-use Rattle.design.specs.declared.Refusal.{Refusal}
-use Rattle.design.specs.declared.Refusal.the-variants.{ShortSheet, OtherEdition, OutsideLimits, OtherLength, DiskOutside, DiskTwice, FillingSet, DisksUneven, PairsUneven, NotAShelf, OtherImage, OutOfRange, OtherBuffer, SomeLost, NoneLost}
 use Rattle.design.specs.declared.Shelf.{Shelf}
 use Rattle.design.specs.declared.Verdict.{Verdict}
 use Rattle.design.specs.declared.Verdict.the-variants.{Accepted, Refused}
-use Rattle.design.specs.Refusals.{number}
 use Rattle.design.specs.Sheet.{opened, shelfOf}
 use Rattle.design.proofs.Reading.{length-table}
+use Rattle.design.proofs.Lowest.{some-number}
 use Rattle.design.proofs.Refused.{accepted-shelf}
 use Rattle.design.proofs.RoundTrip.{opened-is-shelf}
 use Rattle.parity.specs.declared.Rebuilding.{Rebuilding}
@@ -31,24 +29,6 @@ use Rattle.host.proofs.Holding.{value-length, held-table}
 use Rattle.host.proofs.Returned.{put-back}
 
 -- ---- 0 is given by no refusal
-
-some-number : (x : Refusal) → 1 ≤ number x
-unfolding number
-some-number ShortSheet = omega arith
-some-number OtherEdition = omega arith
-some-number OutsideLimits = omega arith
-some-number OtherLength = omega arith
-some-number DiskOutside = omega arith
-some-number DiskTwice = omega arith
-some-number FillingSet = omega arith
-some-number DisksUneven = omega arith
-some-number PairsUneven = omega arith
-some-number NotAShelf = omega arith
-some-number OtherImage = omega arith
-some-number OutOfRange = omega arith
-some-number OtherBuffer = omega arith
-some-number SomeLost = omega arith
-some-number NoneLost = omega arith
 
 pub zero-accepted : (v : Verdict) → numberOf v ≡ 0 → v ≡ Accepted
 unfolding numberOf

@@ -1,14 +1,14 @@
 -- All that is printed for a sheet: sheet B's text as document 01 has it, and that the calls give every sheet's text part by part.
 -- Assumes nothing.
 use mathlib.Core.Path.{_≡_, refl, sym, ap, _∙_}
-use mathlib.Core.Bool.{false, cond}
+use mathlib.Core.Bool.{cond}
 use mathlib.Core.List.{List, _++_}
 use Prim.Native.Nat.{ℕ, _+_}
 use native.Mathlib.Nat.{add-assoc}
 use lib.Dec.{eqb}
 use Rattle.fields.specs.Field.{field, bitAt}
-use Rattle.design.specs.declared.Refusal.{Refusal}
-use Rattle.design.specs.declared.Refusal.the-variants.{ShortSheet, OtherEdition, OutsideLimits, OtherLength, DiskOutside, DiskTwice, FillingSet, DisksUneven, PairsUneven, NotAShelf, OtherImage, OutOfRange, OtherBuffer, SomeLost, NoneLost}
+use native.Mathlib.Omega.{arith}
+use borrow.Author.Tests.{ne-eqb}
 use Rattle.design.specs.declared.Shelf.{Shelf}
 use Rattle.design.specs.declared.Verdict.{Verdict}
 use Rattle.design.specs.declared.Verdict.the-variants.{Accepted, Refused}
@@ -16,6 +16,7 @@ use Rattle.design.specs.Count.{count, every, listFrom}
 use Rattle.design.specs.Refusals.{number, firstBroken}
 use Rattle.design.specs.Tuples.{has, holds, before, shared, disksBelow, again, noneTwice, disksEven, pairsEven}
 use Rattle.design.specs.Sheet.{sheetLength, tableOf, withinLimits, fillingZero, sheetRules, shelfOf, openedBy, opened}
+use Rattle.design.proofs.Lowest.{some-number}
 use Rattle.placement.specs.Layout.{Layout, layoutIn, stripes, placeOf, offsetOf}
 use Rattle.layout.specs.declared.Start.{Start}
 use Rattle.layout.specs.Text.{lastDigits, decimal, placeText, joined, firstLine, placeWord, stripeLine, linesFrom, refusedLine, textBy, layoutText}
@@ -39,24 +40,6 @@ lines-add L first m n =
     ∙ ap (λ (l : List ℕ). joined m (λ i. stripeLine L (first + i)) ++ l)
     (joined-ext n _ (λ i. stripeLine L (first + m + i)) (λ i l. ap (stripeLine L) (sym (add-assoc first m i))))
 
-some-number : (x : Refusal) → eqb (number x) 0 ≡ false
-unfolding number
-some-number ShortSheet = refl
-some-number OtherEdition = refl
-some-number OutsideLimits = refl
-some-number OtherLength = refl
-some-number DiskOutside = refl
-some-number DiskTwice = refl
-some-number FillingSet = refl
-some-number DisksUneven = refl
-some-number PairsUneven = refl
-some-number NotAShelf = refl
-some-number OtherImage = refl
-some-number OutOfRange = refl
-some-number OtherBuffer = refl
-some-number SomeLost = refl
-some-number NoneLost = refl
-
 -- what the program prints is by what opening starts with
 abbrev textFrom : Start → List ℕ
 textFrom w = cond (eqb (w .number) 0) (firstLine (w .shelf) ++ linesFrom (layoutIn (w .shelf)) 0 (w .stripes)) (refusedLine (w .number))
@@ -67,4 +50,4 @@ text-from-start s = go (opened s .verdict) (opened s .shelf)
   where
     go : (v : Verdict) (h : Shelf) → textFrom (startedBy v h) ≡ textBy v h
     go Accepted h = refl
-    go (Refused x) h = rw (some-number x)
+    go (Refused x) h = rw (ne-eqb (number x) 0 (λ z. omega (arith, some-number x)))

@@ -1,4 +1,4 @@
-// The rules of the calls, in the order of their numbers. No number of a shelf value is used before rule 10 has passed it.
+// The rules of the calls, in the order of their numbers. No number of a shelf value is reckoned with before rule 10 has passed it.
 ghost use mathlib.Core.Path.{_≡_};
 ghost use Rattle.design.specs.Refusals.{firstBroken};
 ghost use Rattle.parity.specs.Calls.{wholeRules, unitRules, stripeRules, loseRules, rebuildRules, placeRules};

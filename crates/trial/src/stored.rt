@@ -38,40 +38,29 @@ fn write(shelf: Shelf, image: &mut [u8], size: usize, address: usize, unit: &[u8
     }
 }
 
-fn write_line(held: Held, line: &[u8]) -> Step {
-    let mut image = held.image;
-    let mut space = [0u8; words::MOST];
-    let n = words::bytes(line, 2, &mut space);
-    print::text(b"write");
-    write(
-        held.shelf,
-        &mut image,
-        held.size,
-        words::number(line, 1),
-        &space[0..n],
-    );
-    after(held, image)
-}
-
 fn write_stripe(shelf: Shelf, image: &mut [u8], size: usize, stripe: usize, buffer: &[u8]) {
     if size <= image.len() {
         answers::cost(parity::write_stripe(shelf, &mut image[0..size], stripe, buffer));
     }
 }
 
-fn write_stripe_line(held: Held, line: &[u8]) -> Step {
+// A unit write at the line's first number, or a stripe write.
+fn store(held: Held, line: &[u8], bytes: &[u8], stripe: bool) -> Step {
     let mut image = held.image;
+    let at = words::number(line, 1);
+    if stripe {
+        write_stripe(held.shelf, &mut image, held.size, at, bytes);
+    } else {
+        write(held.shelf, &mut image, held.size, at, bytes);
+    }
+    after(held, image)
+}
+
+fn write_line(held: Held, line: &[u8], stripe: bool) -> Step {
     let mut space = [0u8; words::MOST];
     let n = words::bytes(line, 2, &mut space);
-    print::text(b"writestripe");
-    write_stripe(
-        held.shelf,
-        &mut image,
-        held.size,
-        words::number(line, 1),
-        &space[0..n],
-    );
-    after(held, image)
+    print::text(words::name(line));
+    store(held, line, &space[0..n], stripe)
 }
 
 // The same calls with n equal bytes, for units that no line has room for.
@@ -84,17 +73,9 @@ fn fill_line(held: Held, line: &[u8], stripe: bool) -> Step {
     if byte > 255 {
         return Step::other(held);
     }
-    let mut image = held.image;
     let bytes = [byte as u8; IMAGE_MOST];
-    let at = words::number(line, 1);
-    if stripe {
-        print::text(b"fillstripe");
-        write_stripe(held.shelf, &mut image, held.size, at, first(&bytes, n));
-    } else {
-        print::text(b"fill");
-        write(held.shelf, &mut image, held.size, at, first(&bytes, n));
-    }
-    after(held, image)
+    print::text(words::name(line));
+    store(held, line, first(&bytes, n), stripe)
 }
 
 fn lose_line(held: Held, line: &[u8]) -> Step {
@@ -138,10 +119,10 @@ pub fn run(held: Held, line: &[u8]) -> Step {
         return blank_line(held);
     }
     if words::fits(line, b"write # *") {
-        return write_line(held, line);
+        return write_line(held, line, false);
     }
     if words::fits(line, b"writestripe # *") {
-        return write_stripe_line(held, line);
+        return write_line(held, line, true);
     }
     if words::fits(line, b"fill # # #") {
         return fill_line(held, line, false);

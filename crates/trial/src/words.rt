@@ -47,6 +47,11 @@ fn word(line: &[u8], n: usize) -> &[u8] {
     &line[from..to]
 }
 
+// The command's name.
+pub fn name(line: &[u8]) -> &[u8] {
+    word(line, 0)
+}
+
 // A line has one word more than it has spaces.
 fn spaces(line: &[u8]) -> usize {
     let mut n: usize = 0;
