@@ -48,14 +48,13 @@ pub fn first(out: &mut [u8], shelf: Shelf) -> usize
     requires { ⌜ (isShelf shelf ≡ true) × (lineRoom ≤ length (now out)) ⌝ }
     ensures { λ r. ⌜ Put (now (out .entry)) 0 (firstLine shelf) r (now (out .exit)) ⌝ }
 {
-    let v = digits::number(out, 0, shelf.v);
-    let k = digits::spaced_number(out, v, shelf.k);
-    let b = digits::spaced_number(out, k, shelf.b);
-    let r = digits::spaced_number(out, b, shelf.r);
-    let lambda = digits::spaced_number(out, r, shelf.lambda);
-    let t = digits::spaced_number(out, lambda, shelf.T);
-    let u = digits::spaced_number(out, t, unit_size(shelf.u));
-    line_end(out, u)
+    let unit = unit_size(shelf.u);
+    let numbers = [shelf.k, shelf.b, shelf.r, shelf.lambda, shelf.T, unit];
+    let mut at = digits::number(out, 0, shelf.v);
+    for i in 0..6 {
+        at = digits::spaced_number(out, at, numbers[i]);
+    }
+    line_end(out, at)
 }
 
 fn wide(entry: u8) -> usize

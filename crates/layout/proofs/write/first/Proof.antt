@@ -1,146 +1,107 @@
--- `layout::write::first` meets its contract: each number is written after those before it. Assumes nothing.
-use mathlib.Core.List.{List}
-use Prim.Native.Nat.{ℕ, _≤_}
+-- `layout::write::first` meets its contract. The loop's invariant: the first i of the numbers after v are written. Assumes nothing.
+use mathlib.Core.Path.{_≡_}
+use mathlib.Core.List.{List, [], _∷_, _++_}
+use Prim.Native.Nat.{ℕ, _+_, _-_, _≤_}
 use native.Mathlib.Omega.{arith}
 use Rattle.design.proofs.ShelfTests.{shelf-parts}
-use Rattle.layout.specs.Text.{joined}
+use Rattle.layout.specs.Text.{lineEnd, joined}
 use Rattle.layout.specs.inner.Steps.{Fits, Put}
-use Rattle.layout.proofs.Puts.{kept-length}
+use Rattle.layout.proofs.Puts.{kept-length, put-nothing, put-then, fits-front, fits-rest}
 use Rattle.layout.proofs.Words.{fewer-fit, next-fits, put-next}
-use Rattle.layout.proofs.FirstLine.{firstWord, first-is, words-most}
+use Rattle.layout.proofs.FirstLine.{laterNumbers, numberWord, firstText, first-is, text-most}
 use Rattle.layout.proofs.write.first.Statement.{statement}
 use Rattle.layout.proofs.write.first.Tie as tie
 
--- ---- the first words of the line, and that they fit
+abbrev Inv-loop : tie.InvT-loop
+Inv-loop out₀ unit numbers at₀ i₀ out at i = (i ≤ 6) × Put out₀ at₀ (joined i (numberWord numbers)) at out
 
-abbrev word : tie.Start → ℕ → List ℕ
-word s = firstWord (s .args .shelf)
+abbrev μ-loop : tie.MeasureT-loop
+μ-loop out₀ unit numbers at₀ i₀ out at i = 6 - i
 
-fits : (s : tie.Start) (n : ℕ) → n ≤ 8 → Fits (s .args .out .now) 0 (joined n (word s))
-fits s n l = fewer-fit (word s) l (record { room = omega (arith, s .pre .1, words-most (s .args .shelf) (s .pre .0)) })
+unit-size-requires : tie.Need-unit-size-requires Inv-loop μ-loop
+unit-size-requires c κs = let s = c .before in shelf-parts (s .args .shelf) (s .pre .0) .limits .u-most
 
-abbrev Wrote : tie.Start → ℕ → ℕ → List ℕ → Type 0
-Wrote s n next after = Put (s .args .out .now) 0 (joined n (word s)) next after
+-- ---- there is room
 
--- ---- what is written after each step
+all-fits : (c : tie.After-unit-size Inv-loop μ-loop) → let s = c .before .before in Fits (s .args .out .now) 0 (firstText (s .args .shelf) (c .unit-size .result))
+all-fits c =
+    let s = c .before .before in
+    record { room = omega (arith, s .pre .1, text-most (s .args .shelf) (s .pre .0) (c .unit-size .result) (c .unit-size .ensures)) }
 
-abbrev start-v : tie.After-number → tie.Start
-start-v c = c .before .before .before
+number-requires : tie.Need-number-requires Inv-loop μ-loop
+number-requires c κs = fits-front _ _ (all-fits (c .before))
 
-wrote-v : (c : tie.After-number) → Wrote (start-v c) 1 (c .number .result) (c .number .last .0)
+abbrev start : tie.After-number Inv-loop μ-loop → tie.Start Inv-loop μ-loop
+start c = c .before .before .before .before
+
+abbrev numbers : tie.After-number Inv-loop μ-loop → List ℕ
+numbers c = laterNumbers (start c .args .shelf) (c .before .before .unit-size .result)
+
+-- for the other numbers too, and the line end
+later-fit : (c : tie.After-number Inv-loop μ-loop) → Fits (c .number .last .0) (c .number .result) (joined 6 (numberWord (numbers c)) ++ lineEnd ∷ [])
+later-fit c = fits-rest (all-fits (c .before .before)) (c .number .ensures)
+
+-- ---- a turn
+
+loop-holds : tie.Need-loop-holds Inv-loop μ-loop
 unfolding joined
-wrote-v c = c .number .ensures
+loop-holds c = (omega arith, put-nothing)
 
-abbrev start-k : tie.After-spaced-number → tie.Start
-start-k c = start-v (c .before .before .before .before)
+-- the first i + 1 of them fit
+turn-fits : (c : tie.In-loop Inv-loop μ-loop) → let n = c .before .before .before .before in
+    Fits (n .number .last .0) (n .number .result) (joined (c .before .loop .i + 1) (numberWord (numbers n)))
+turn-fits c = fewer-fit (numberWord (numbers (c .before .before .before .before))) (omega arith) (fits-front _ _ (later-fit (c .before .before .before .before)))
 
-wrote-k : (c : tie.After-spaced-number) → Wrote (start-k c) 2 (c .spaced-number .result) (c .spaced-number .last .0)
-wrote-k c = put-next (word (start-k c)) 1 (fits (start-k c) 2 (omega arith)) (wrote-v (c .before .before .before .before)) (c .spaced-number .ensures)
+spaced-number-requires : tie.Need-spaced-number-requires Inv-loop μ-loop
+spaced-number-requires c κs = let turn = c .before in next-fits (numberWord (numbers (turn .before .before .before .before))) (turn .before .loop .i) (turn-fits turn) (turn .before .loop .inv .1)
 
-abbrev start-b : tie.After-spaced-number2 → tie.Start
-start-b c = start-k (c .before .before .before .before)
+loop-again : tie.Need-loop-again Inv-loop μ-loop
+loop-again c =
+    let written = c .before .before in
+    let turn = written .before .before in
+    (omega arith, put-next (numberWord (numbers (turn .before .before .before .before))) (turn .before .loop .i) (turn-fits turn) (turn .before .loop .inv .1) (written .spaced-number .ensures))
 
-wrote-b : (c : tie.After-spaced-number2) → Wrote (start-b c) 3 (c .spaced-number2 .result) (c .spaced-number2 .last .0)
-wrote-b c = put-next (word (start-b c)) 2 (fits (start-b c) 3 (omega arith)) (wrote-k (c .before .before .before .before)) (c .spaced-number2 .ensures)
+-- ---- the end of the line
 
-abbrev start-r : tie.After-spaced-number3 → tie.Start
-start-r c = start-b (c .before .before .before .before)
+all-put : (c : tie.After-loop Inv-loop μ-loop) → let n = c .before .before .before .before in
+    Put (n .number .last .0) (n .number .result) (joined 6 (numberWord (numbers n))) (c .before .loop .at) (c .before .loop .out)
+all-put c =
+    let over : c .before .loop .i ≡ 6 = omega (arith, c .before .loop .inv .0, c .loop-test .left) in
+    rw over at (c .before .loop .inv .1)
 
-wrote-r : (c : tie.After-spaced-number3) → Wrote (start-r c) 4 (c .spaced-number3 .result) (c .spaced-number3 .last .0)
-wrote-r c = put-next (word (start-r c)) 3 (fits (start-r c) 4 (omega arith)) (wrote-b (c .before .before .before .before)) (c .spaced-number3 .ensures)
+line-end-requires : tie.Need-line-end-requires Inv-loop μ-loop
+line-end-requires c κs = omega (arith, fits-rest (later-fit (c .before .before .before .before .before)) (all-put (c .before)) .room)
 
-abbrev start-lambda : tie.After-spaced-number4 → tie.Start
-start-lambda c = start-r (c .before .before .before .before)
+written : (c : tie.After-line-end Inv-loop μ-loop) → let s = start (c .before .before .before .before .before .before) in
+    Put (s .args .out .now) 0 (firstText (s .args .shelf) (c .before .before .before .before .before .before .before .before .unit-size .result)) (c .line-end .result) (c .line-end .last .0)
+written c =
+    let n = c .before .before .before .before .before .before in
+    put-then (all-fits (n .before .before)) (n .number .ensures) (put-then (later-fit n) (all-put (c .before .before)) (c .line-end .ensures))
 
-wrote-lambda : (c : tie.After-spaced-number4) → Wrote (start-lambda c) 5 (c .spaced-number4 .result) (c .spaced-number4 .last .0)
-wrote-lambda c = put-next (word (start-lambda c)) 4 (fits (start-lambda c) 5 (omega arith)) (wrote-r (c .before .before .before .before)) (c .spaced-number4 .ensures)
+same-length : tie.Need-same-length Inv-loop μ-loop
+same-length c = let end = c .before .before in kept-length (all-fits (end .before .before .before .before .before .before .before .before)) (written end)
 
-abbrev start-T : tie.After-spaced-number5 → tie.Start
-start-T c = start-lambda (c .before .before .before .before)
-
-wrote-T : (c : tie.After-spaced-number5) → Wrote (start-T c) 6 (c .spaced-number5 .result) (c .spaced-number5 .last .0)
-wrote-T c = put-next (word (start-T c)) 5 (fits (start-T c) 6 (omega arith)) (wrote-lambda (c .before .before .before .before)) (c .spaced-number5 .ensures)
-
-abbrev start-U : tie.After-spaced-number6 → tie.Start
-start-U c = start-T (c .before .before .before .before .before)
-
-wrote-U : (c : tie.After-spaced-number6) → Wrote (start-U c) 7 (c .spaced-number6 .result) (c .spaced-number6 .last .0)
-wrote-U c = put-next (word (start-U c)) 6 (fits (start-U c) 7 (omega arith)) (wrote-T (c .before .before .before .before .before)) (rw (c .before .unit-size .ensures) at (c .spaced-number6 .ensures))
-
-abbrev start-end : tie.After-line-end → tie.Start
-start-end c = start-U (c .before .before .before .before)
-
-wrote-all : (c : tie.After-line-end) → Wrote (start-end c) 8 (c .line-end .result) (c .line-end .last .0)
-wrote-all c = put-next (word (start-end c)) 7 (fits (start-end c) 8 (omega arith)) (wrote-U (c .before .before .before .before)) (c .line-end .ensures)
-
--- ---- the needs
-
-number-requires : tie.Need-number-requires
-unfolding joined
-number-requires c κs = fits (c .before .before) 1 (omega arith)
-
-spaced-number-requires : tie.Need-spaced-number-requires
-spaced-number-requires c κs =
-    let w = c .before .before .before in
-    next-fits (word (start-v w)) 1 (fits (start-v w) 2 (omega arith)) (wrote-v w)
-
-spaced-number-requires-2 : tie.Need-spaced-number-requires-2
-spaced-number-requires-2 c κs =
-    let w = c .before .before .before in
-    next-fits (word (start-k w)) 2 (fits (start-k w) 3 (omega arith)) (wrote-k w)
-
-spaced-number-requires-3 : tie.Need-spaced-number-requires-3
-spaced-number-requires-3 c κs =
-    let w = c .before .before .before in
-    next-fits (word (start-b w)) 3 (fits (start-b w) 4 (omega arith)) (wrote-b w)
-
-spaced-number-requires-4 : tie.Need-spaced-number-requires-4
-spaced-number-requires-4 c κs =
-    let w = c .before .before .before in
-    next-fits (word (start-r w)) 4 (fits (start-r w) 5 (omega arith)) (wrote-r w)
-
-spaced-number-requires-5 : tie.Need-spaced-number-requires-5
-spaced-number-requires-5 c κs =
-    let w = c .before .before .before in
-    next-fits (word (start-lambda w)) 5 (fits (start-lambda w) 6 (omega arith)) (wrote-lambda w)
-
-unit-size-requires : tie.Need-unit-size-requires
-unit-size-requires c κs =
-    let s = start-T (c .before .before .before) in
-    shelf-parts (s .args .shelf) (s .pre .0) .limits .u-most
-
-spaced-number-requires-6 : tie.Need-spaced-number-requires-6
-spaced-number-requires-6 c κs =
-    let w = c .before .before .before .before in
-    rw (c .unit-size .ensures) (next-fits (word (start-T w)) 6 (fits (start-T w) 7 (omega arith)) (wrote-T w))
-
-line-end-requires : tie.Need-line-end-requires
-line-end-requires c κs =
-    let w = c .before .before .before in
-    omega (arith, next-fits (word (start-U w)) 7 (fits (start-U w) 8 (omega arith)) (wrote-U w) .room)
-
-same-length : tie.Need-same-length
-same-length c =
-    let w = c .before .before in
-    kept-length (fits (start-end w) 8 (omega arith)) (wrote-all w)
-
-returns : tie.Need-returns
+returns : tie.Need-returns Inv-loop μ-loop
 returns c =
-    let w = c .before .before in
-    rw (first-is (start-end w .args .shelf)) at (wrote-all w)
+    let end = c .before .before in
+    let unit = end .before .before .before .before .before .before .before .before in
+    rw (first-is (unit .before .before .args .shelf) (unit .unit-size .result) (unit .unit-size .ensures)) at (written end)
 
 pub first-spec : {M : Type 1} → statement M
 first-spec =
     tie.close
     (tie.spec
-    number-requires
-    spaced-number-requires
-    spaced-number-requires-2
-    spaced-number-requires-3
-    spaced-number-requires-4
-    spaced-number-requires-5
+    Inv-loop
+    μ-loop
     unit-size-requires
-    spaced-number-requires-6
+    number-requires
+    loop-holds
+    (λ c. omega arith)
+    (λ c. omega arith)
+    spaced-number-requires
+    (λ c. omega arith)
+    (λ c. omega arith)
+    loop-again
     line-end-requires
     same-length
     returns)
