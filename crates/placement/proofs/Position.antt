@@ -93,14 +93,14 @@ pub record DataAt (L : Layout) (s x j : ℕ) : Type 0 where
   pub only : (i : ℕ) → positionOf L s i ≡ x → i ≡ j
 
 module _ (L : Layout) (E : Even L) (s : ℕ) where
+  pub position-ne : (j : ℕ) → positionOf L s j ≢ parityOf L s
+  position-ne = over-ne (parityOf L s)
+
   pub parity-lt : parityOf L s < L .k
   parity-lt = omega (arith, E .k-least, copy-lt L E s)
 
   pub position-lt : (j : ℕ) → j < L .k - 1 → positionOf L s j < L .k
   position-lt j h = omega (arith, over-lt (parityOf L s) j (L .k - 1) h)
-
-  pub position-ne : (j : ℕ) → positionOf L s j ≢ parityOf L s
-  position-ne = over-ne (parityOf L s)
 
   pub position-inj : (i j : ℕ) → positionOf L s i ≡ positionOf L s j → i ≡ j
   position-inj i j e = sym (under-over (parityOf L s) i) ∙ ap (under (parityOf L s)) e ∙ under-over (parityOf L s) j
