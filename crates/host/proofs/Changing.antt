@@ -23,7 +23,7 @@ unfolding by
 count-length Accepted h = length-listFrom 0 64 (readFrom h (h .loss))
 count-length (Refused x) h = length-replicate {A = ℕ} 64 0
 
-module _ {h : Shelf} {image : List ℕ} {answer : Rebuilding} {image′ : List ℕ} (kept : Rebuilt h image answer image′) where
+module _ (h : Shelf) (image : List ℕ) {answer : Rebuilding} {image′ : List ℕ} (kept : Rebuilt h image answer image′) where
   pub rebuilding-shelf : answer .verdict ≡ Accepted → isShelf h ≡ true
   rebuilding-shelf e = rebuild-accepted h image .0 (sym (ap (λ (x : Rebuilding). x .verdict) (kept .answers)) ∙ e) .stored .shelf
 

@@ -4,7 +4,7 @@ use mathlib.Core.List.{List, [], _∷_, _++_, append-assoc, append-nil}
 use Prim.Native.Nat.{ℕ, suc, _+_, _<_}
 use native.Mathlib.Omega.{arith}
 use lib.ListN.{length, take, drop, set, length-set, length-append, length-drop, take-append-drop}
-use lib.Seq.{length-take-le, take-at, drop-at, drop-drop, set-split, take-set-le, append-snoc, sets, sets-eq}
+use lib.Seq.{length-take-le, take-at, drop-at, drop-drop, set-split, take-set-le, append-snoc}
 use Rattle.layout.specs.inner.Steps.{put, Fits, Put}
 
 module _ (buffer : List ℕ) (at : ℕ) where
@@ -82,11 +82,6 @@ module _ {buffer : List ℕ} {at : ℕ} where
 
   pub put-one : (y : ℕ) → at < length buffer → Put buffer at (y ∷ []) (at + 1) (set buffer at y)
   put-one y h = record { moves = refl; leaves = put-byte buffer at y h }
-
-  -- byte after byte
-  pub put-bytes : (text : List ℕ) → Fits buffer at text → Put buffer at text (at + length text) (sets buffer at text)
-  unfolding put
-  put-bytes text fits = record { moves = refl; leaves = sets-eq text buffer at (fits .room) }
 
   pub put-then : {x y : List ℕ} {middle next : ℕ} {between after : List ℕ} → Fits buffer at (x ++ y)
       → Put buffer at x middle between → Put between middle y next after → Put buffer at (x ++ y) next after

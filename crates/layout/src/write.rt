@@ -6,7 +6,7 @@ ghost use Prim.Native.Nat.{_+_, _-_, _*_, _^_, _≤_, _<_};
 ghost use lib.ListN.{length};
 ghost use Rattle.design.specs.Shelf.{isShelf};
 ghost use Rattle.placement.specs.Layout.{layoutIn, stripes};
-ghost use Rattle.layout.specs.Text.{lineEnd, firstLine, linesFrom, refusedLine};
+ghost use Rattle.layout.specs.Text.{lineEnd, firstLine, linesFrom, refusedWord, refusedLine};
 ghost use Rattle.layout.specs.Calls.{lineRoom};
 ghost use Rattle.layout.specs.inner.Steps.{Fits, Put, entryWord, dataWords, rankedLine, Reckoned};
 use crate::digits;
@@ -21,17 +21,21 @@ fn line_end(out: &mut [u8], at: usize) -> usize
     at + 1
 }
 
+fn refused_word(out: &mut [u8])
+    requires { ⌜ lineRoom ≤ length (now out) ⌝ }
+    ensures { λ _. ⌜ Put (now (out .entry)) 0 refusedWord 7 (now (out .exit)) ⌝ }
+{
+    let word = [b'r', b'e', b'f', b'u', b's', b'e', b'd'];
+    for i in 0..7 {
+        out[i] = word[i];
+    }
+}
+
 pub fn refused(out: &mut [u8], number: usize) -> usize
     requires { ⌜ lineRoom ≤ length (now out) ⌝ }
     ensures { λ r. ⌜ Put (now (out .entry)) 0 (refusedLine number) r (now (out .exit)) ⌝ }
 {
-    out[0] = b'r';
-    out[1] = b'e';
-    out[2] = b'f';
-    out[3] = b'u';
-    out[4] = b's';
-    out[5] = b'e';
-    out[6] = b'd';
+    refused_word(out);
     let at = digits::spaced_number(out, 7, number);
     line_end(out, at)
 }

@@ -1,4 +1,5 @@
--- When each call on the image is accepted. Assumes nothing.
+-- The rules of each call stand by rising number, so the one given is "the lowest number that applies"; and when each call is
+-- accepted. Assumes nothing.
 use mathlib.Core.Path.{_≡_, refl, sym}
 use mathlib.Core.Logic.{_↔_}
 use mathlib.Core.Bool.{true, not, true≢false}
@@ -12,9 +13,10 @@ use Rattle.design.specs.declared.Loss.{Loss}
 use Rattle.design.specs.declared.Loss.the-variants.{Nothing, Disk}
 use Rattle.design.specs.declared.Shelf.{Shelf}
 use Rattle.design.specs.declared.Verdict.the-variants.{Accepted}
-use Rattle.design.specs.Refusals.{Rule, firstBroken}
+use Rattle.design.specs.Refusals.{Rule, firstBroken, number}
 use Rattle.design.specs.Shelf.{isShelf, shelfRule}
 use Rattle.design.proofs.Counting.{both, both-of}
+use Rattle.design.proofs.Lowest.{rising}
 use Rattle.placement.specs.Layout.{layoutIn, stripes, stripeOf, jOf}
 use Rattle.placement.proofs.Even.{even-shelf}
 use Rattle.placement.proofs.Stands.{j-lt, stripe-below}
@@ -78,6 +80,10 @@ lost-exactly h = (λ e. find (h .loss) refl e, λ l. rw (l .loss))
 
 -- ---- blank and scrub
 
+pub whole-rise : (h : Shelf) (n : ℕ) → rising 0 (wholeRules h n) ≡ true
+unfolding wholeRules rising number
+whole-rise h n = refl
+
 pub record WholeCall (h : Shelf) (image : List ℕ) : Type 0 where
   pub stored : Held h image
   pub whole : h .loss ≡ Nothing
@@ -95,6 +101,10 @@ module _ (h : Shelf) (image : List ℕ) where
 
 -- ---- rebuild
 
+pub rebuild-rise : (h : Shelf) (n : ℕ) → rising 0 (rebuildRules h n) ≡ true
+unfolding rebuildRules rising number
+rebuild-rise h n = refl
+
 pub record LostCall (h : Shelf) (image : List ℕ) : Type 0 where
   pub stored : Held h image
   pub lost : Lost h
@@ -110,6 +120,10 @@ rebuild-accepted h image =
     )
 
 -- ---- lose
+
+pub lose-rise : (h : Shelf) (d : ℕ) → rising 0 (loseRules h d) ≡ true
+unfolding loseRules rising number
+lose-rise h d = refl
 
 pub record LoseCall (h : Shelf) (d : ℕ) : Type 0 where
   pub shelf : isShelf h ≡ true
@@ -127,6 +141,10 @@ lose-accepted h d =
     )
 
 -- ---- a read, a unit write, show address
+
+pub unit-rise : (h : Shelf) (n a m : ℕ) → rising 0 (unitRules h n a m) ≡ true
+unfolding unitRules rising number
+unit-rise h n a m = refl
 
 module _ (h : Shelf) (image : List ℕ) (a : ℕ) (unit : List ℕ) where
   pub unit-accepted : (firstBroken (unitRules h (length image) a (length unit)) ≡ Accepted) ↔ UnitCall h image a unit
@@ -148,6 +166,10 @@ module _ {h : Shelf} {image : List ℕ} {a : ℕ} {unit : List ℕ} (w : UnitCal
 
 -- ---- a stripe write
 
+pub stripe-rise : (h : Shelf) (n s m : ℕ) → rising 0 (stripeRules h n s m) ≡ true
+unfolding stripeRules rising number
+stripe-rise h n s m = refl
+
 pub stripe-write-accepted : (h : Shelf) (image : List ℕ) (s : ℕ) (buffer : List ℕ) → (firstBroken (stripeRules h (length image) s (length buffer)) ≡ Accepted) ↔ StripeCall h image s buffer
 unfolding stripeRules
 stripe-write-accepted h image s buffer =
@@ -158,6 +180,10 @@ stripe-write-accepted h image s buffer =
     )
 
 -- ---- show place
+
+pub place-rise : (h : Shelf) (n d o : ℕ) → rising 0 (placeRules h n d o) ≡ true
+unfolding placeRules rising number
+place-rise h n d o = refl
 
 pub record PlaceCall (h : Shelf) (image : List ℕ) (d o : ℕ) : Type 0 where
   pub stored : Held h image

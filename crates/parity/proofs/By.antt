@@ -13,7 +13,7 @@ use Rattle.design.specs.Refusals.{Rule, firstBroken}
 use Rattle.design.specs.Shelf.{shelfRule}
 use Rattle.parity.specs.declared.Cost.{Cost}
 use Rattle.parity.specs.Stripe.{imageSize}
-use Rattle.parity.specs.Calls.{imageRule, by, costs}
+use Rattle.parity.specs.Calls.{imageRule, by, costs, Answered}
 
 pub by-accepted : {A : Type 0} {v : Verdict} (x y : A) → v ≡ Accepted → by v x y ≡ x
 unfolding by
@@ -67,11 +67,15 @@ module _ {v : Verdict} (r w : ℕ) {answer : Cost} (is : answer ≡ costs v r w)
   unfolding by
   cost-refused x e = let a : v ≡ Refused x = sym cost-verdict ∙ e in is ∙ ap (λ (v : Verdict). costs v r w) a
 
--- what the code answers by a verdict w that it found as v: refused, and accepted
-pub cost-none : {v w : Verdict} {x : Refusal} (r c : ℕ) → v ≡ w → v ≡ Refused x → _≡_ {A = Cost} (record { verdict = v; read = 0; written = 0 }) (costs w r c)
-unfolding by
-cost-none r c e f = rw (f, sym e ∙ f)
+-- what the code answers and leaves by a verdict w that it found as v
+module _ {v w : Verdict} (r c : ℕ) {new old : List ℕ} (e : v ≡ w) where
+  pub refused-answers : {x : Refusal} → v ≡ Refused x → Answered (costs w r c) w new old (record { verdict = v; read = 0; written = 0 }) old
+  unfolding by
+  refused-answers f = record { answers = rw (f, sym e ∙ f); leaves = refused-gives new old e f }
 
-pub cost-given : {v w : Verdict} {r c r′ c′ : ℕ} → v ≡ w → v ≡ Accepted → r′ ≡ r → c′ ≡ c → _≡_ {A = Cost} (record { verdict = v; read = r′; written = c′ }) (costs w r c)
+  pub accepted-answers : {answer : Cost} {after : List ℕ} → v ≡ Accepted → answer ≡ costs Accepted r c → after ≡ new → Answered (costs w r c) w new old answer after
+  accepted-answers f p q = record { answers = rw (sym e ∙ f) p; leaves = accepted-gives new old e f q }
+
+pub cost-given : {v : Verdict} {r c r′ c′ : ℕ} → v ≡ Accepted → r′ ≡ r → c′ ≡ c → _≡_ {A = Cost} (record { verdict = v; read = r′; written = c′ }) (costs Accepted r c)
 unfolding by
-cost-given e f p q = rw (f, sym e ∙ f, p, q)
+cost-given f p q = rw (f, p, q)

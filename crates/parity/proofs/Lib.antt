@@ -19,7 +19,6 @@ pub mod Stores
 pub mod UnitStores
 pub mod StripeStores
 pub mod Restores
-pub mod Rising
 pub mod Accepted
 pub mod Spots
 pub mod Verdicts

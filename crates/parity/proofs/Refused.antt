@@ -11,12 +11,17 @@ use Rattle.parity.specs.declared.Cost.{Cost}
 use Rattle.parity.specs.declared.Rebuilding.{Rebuilding}
 use Rattle.parity.specs.Units.{zeros}
 use Rattle.design.specs.Refusals.{firstBroken}
-use Rattle.parity.specs.Calls.{by, Blanked, ReadOut, Wrote, WroteStripe, lost, Rebuilt, rebuildRules, rebuilding, scrubbed}
+use Rattle.parity.specs.Calls.{by, costs, Answered, Blanked, ReadOut, Wrote, WroteStripe, lost, Rebuilt, rebuildRules, rebuilding, scrubbed}
 use Rattle.parity.proofs.By.{by-refused, cost-verdict, cost-refused}
 
 -- a refused cost
 abbrev pub noCost : Refusal → Cost
 noCost x = record { verdict = Refused x; read = 0; written = 0 }
+
+-- of every call that counts units
+costs-refused : {v : Verdict} (r w : ℕ) {new old : List ℕ} (x : Refusal) {answer : Cost} {after : List ℕ} → answer .verdict ≡ Refused x
+    → Answered (costs v r w) v new old answer after → (answer ≡ noCost x) × (after ≡ old)
+costs-refused r w x e P = (cost-refused r w (P .answers) x e, P .leaves ∙ by-refused _ _ (sym (cost-verdict r w (P .answers)) ∙ e))
 
 module _ (h : Shelf) (image : List ℕ) (x : Refusal) where
   pub blank-refused : (after : List ℕ) → Blanked h image (Refused x) after → after ≡ image
@@ -37,13 +42,13 @@ module _ (h : Shelf) (image : List ℕ) (x : Refusal) where
 
   module _ (a : ℕ) (buffer : List ℕ) (answer : Cost) (after : List ℕ) (e : answer .verdict ≡ Refused x) where
     pub read-refused : ReadOut h image a buffer answer after → (answer ≡ noCost x) × (after ≡ buffer)
-    read-refused P = (cost-refused _ _ (P .answers) x e, P .leaves ∙ by-refused _ buffer (sym (cost-verdict _ _ (P .answers)) ∙ e))
+    read-refused = costs-refused _ _ x e
 
     pub write-refused : Wrote h image a buffer answer after → (answer ≡ noCost x) × (after ≡ image)
-    write-refused P = (cost-refused _ _ (P .answers) x e, P .leaves ∙ by-refused _ image (sym (cost-verdict _ _ (P .answers)) ∙ e))
+    write-refused = costs-refused _ _ x e
 
     pub stripe-write-refused : WroteStripe h image a buffer answer after → (answer ≡ noCost x) × (after ≡ image)
-    stripe-write-refused P = (cost-refused _ _ (P .answers) x e, P .leaves ∙ by-refused _ image (sym (cost-verdict _ _ (P .answers)) ∙ e))
+    stripe-write-refused = costs-refused _ _ x e
 
 pub lose-refused : (h : Shelf) (d : ℕ) (x : Refusal) → lost h d .verdict ≡ Refused x → lost h d .shelf ≡ h
 unfolding lost

@@ -8,14 +8,19 @@ use Rattle.parity.specs.declared.Cost.{Cost}
 use Rattle.parity.specs.declared.Losing.{Losing}
 use Rattle.parity.specs.declared.Rebuilding.{Rebuilding}
 use Rattle.parity.specs.declared.Scrubbing.{Scrubbing}
-use Rattle.parity.specs.Calls.{Blanked, ReadOut, Wrote, WroteStripe, lost, Rebuilt, scrubbed, placeShown, addressShown}
+use Rattle.parity.specs.Calls.{Answered, Blanked, ReadOut, Wrote, WroteStripe, lost, Rebuilt, scrubbed, placeShown, addressShown}
+
+-- of every call that answers and leaves bytes
+answered-unique : {A : Type 0} {said : A} {v : Verdict} {new old : List ℕ} {r r′ : A} {after after′ : List ℕ} → Answered said v new old r after
+    → Answered said v new old r′ after′ → (r ≡ r′) × (after ≡ after′)
+answered-unique p q = (p .answers ∙ sym (q .answers), p .leaves ∙ sym (q .leaves))
 
 module _ (h : Shelf) (image : List ℕ) where
   pub blanked-unique : (r r′ : Verdict) (after after′ : List ℕ) → Blanked h image r after → Blanked h image r′ after′ → (r ≡ r′) × (after ≡ after′)
-  blanked-unique r r′ after after′ p q = (p .answers ∙ sym (q .answers), p .leaves ∙ sym (q .leaves))
+  blanked-unique r r′ after after′ = answered-unique
 
   pub rebuilt-unique : (r r′ : Rebuilding) (after after′ : List ℕ) → Rebuilt h image r after → Rebuilt h image r′ after′ → (r ≡ r′) × (after ≡ after′)
-  rebuilt-unique r r′ after after′ p q = (p .answers ∙ sym (q .answers), p .leaves ∙ sym (q .leaves))
+  rebuilt-unique r r′ after after′ = answered-unique
 
   pub scrubbed-unique : (r r′ : Scrubbing) → r ≡ scrubbed h image → r′ ≡ scrubbed h image → r ≡ r′
   scrubbed-unique r r′ p q = p ∙ sym q
@@ -26,13 +31,13 @@ module _ (h : Shelf) (image : List ℕ) where
   -- a is an address or a stripe, and x a unit, a buffer or the second buffer
   module _ (a : ℕ) (x : List ℕ) where
     pub read-out-unique : (r r′ : Cost) (after after′ : List ℕ) → ReadOut h image a x r after → ReadOut h image a x r′ after′ → (r ≡ r′) × (after ≡ after′)
-    read-out-unique r r′ after after′ p q = (p .answers ∙ sym (q .answers), p .leaves ∙ sym (q .leaves))
+    read-out-unique r r′ after after′ = answered-unique
 
     pub wrote-unique : (r r′ : Cost) (after after′ : List ℕ) → Wrote h image a x r after → Wrote h image a x r′ after′ → (r ≡ r′) × (after ≡ after′)
-    wrote-unique r r′ after after′ p q = (p .answers ∙ sym (q .answers), p .leaves ∙ sym (q .leaves))
+    wrote-unique r r′ after after′ = answered-unique
 
     pub wrote-stripe-unique : (r r′ : Cost) (after after′ : List ℕ) → WroteStripe h image a x r after → WroteStripe h image a x r′ after′ → (r ≡ r′) × (after ≡ after′)
-    wrote-stripe-unique r r′ after after′ p q = (p .answers ∙ sym (q .answers), p .leaves ∙ sym (q .leaves))
+    wrote-stripe-unique r r′ after after′ = answered-unique
 
     pub address-shown-unique : (r r′ : List ℕ) → r ≡ addressShown h image a x → r′ ≡ addressShown h image a x → r ≡ r′
     address-shown-unique r r′ p q = p ∙ sym q

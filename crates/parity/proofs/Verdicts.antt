@@ -5,11 +5,13 @@ use mathlib.Core.List.{List, [], _∷_, _++_}
 use Prim.Native.Nat.{ℕ}
 use native.Mathlib.Omega.{arith}
 use Rattle.design.specs.declared.Refusal.{Refusal}
+use Rattle.design.specs.declared.Shelf.{Shelf}
 use Rattle.design.specs.declared.Verdict.{Verdict}
 use Rattle.design.specs.declared.Verdict.the-variants.{Accepted, Refused}
 use Rattle.design.specs.Refusals.{Rule, firstBroken}
+use Rattle.design.specs.Shelf.{isShelf}
 use Rattle.parity.specs.Calls.{by}
-use Rattle.parity.specs.inner.Judged.{following}
+use Rattle.parity.specs.inner.Judged.{imageRules, following}
 use Rattle.parity.proofs.Cases.{cases}
 use Rattle.parity.proofs.Accepted.{rule-kept}
 
@@ -32,7 +34,7 @@ module _ (x : Rule) (rules : List Rule) where
 
 -- the first rules of a list: none of them is broken, or one is
 module _ (rest : List Rule) where
-  pub past-all : (first : List Rule) {v : Verdict} → firstBroken first ≡ Accepted → v ≡ firstBroken rest → v ≡ firstBroken (first ++ rest)
+  past-all : (first : List Rule) {v : Verdict} → firstBroken first ≡ Accepted → v ≡ firstBroken rest → v ≡ firstBroken (first ++ rest)
   past-all [] a e = e
   past-all (x ∷ first) a e = let p = rule-kept x first .0 a in past x (first ++ rest) (p .0) (past-all first (p .1) e)
 
@@ -44,6 +46,14 @@ module _ (rest : List Rule) where
   -- the verdict v of the first rules is a refusal
   pub refused-already : (first : List Rule) {v : Verdict} {x : Refusal} → v ≡ firstBroken first → v ≡ Refused x → v ≡ firstBroken (first ++ rest)
   refused-already first e f = e ∙ broken-within first (sym e ∙ f)
+
+-- the rules of an image, of which the code's verdict v is that they are kept
+module _ (h : Shelf) (n : ℕ) {v : Verdict} (judged : v ≡ firstBroken (imageRules h n)) (passed : v ≡ Accepted) where
+  pub shelf-passed : isShelf h ≡ true
+  shelf-passed = rule-kept _ _ .0 (sym judged ∙ passed) .0
+
+  pub past-image : (rest : List Rule) {w : Verdict} → w ≡ firstBroken rest → w ≡ firstBroken (imageRules h n ++ rest)
+  past-image rest = past-all rest (imageRules h n) (sym judged ∙ passed)
 
 -- ---- the rules so far, and one more
 

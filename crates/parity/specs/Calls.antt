@@ -85,11 +85,15 @@ unfoldable pub by : {A : Type 0} → Verdict → A → A → A
 by Accepted x y = x
 by (Refused r) x y = y
 
+-- a call answers so, and leaves new bytes in what is lent to it, or those that stood there, by its verdict
+pub record Answered {A : Type 0} (said : A) (verdict : Verdict) (new old : List ℕ) (answer : A) (after : List ℕ) : Type 0 where
+  pub answers : answer ≡ said
+  pub leaves : after ≡ by verdict new old
+
 -- ---- blank
 
-pub record Blanked (h : Shelf) (image : List ℕ) (answer : Verdict) (after : List ℕ) : Type 0 where
-  pub answers : answer ≡ firstBroken (wholeRules h (length image))
-  pub leaves : after ≡ by (firstBroken (wholeRules h (length image))) (zeros (length image)) image
+abbrev pub Blanked : Shelf → List ℕ → Verdict → List ℕ → Type 0
+Blanked h image = let v : Verdict = firstBroken (wholeRules h (length image)) in Answered v v (zeros (length image)) image
 
 -- ---- read
 
@@ -103,9 +107,12 @@ readCost h s i = cond (present h (unitIn h s i)) 1 (h .k - 1)
 abbrev pub costs : Verdict → ℕ → ℕ → Cost
 costs verdict r w = record { verdict = verdict; read = by verdict r 0; written = by verdict w 0 }
 
-pub record ReadOut (h : Shelf) (image : List ℕ) (a : ℕ) (buffer : List ℕ) (answer : Cost) (after : List ℕ) : Type 0 where
-  pub answers : answer ≡ costs (firstBroken (unitRules h (length image) a (length buffer))) (readCost h (stripeOf (layoutIn h) a) (jOf (layoutIn h) a)) 0
-  pub leaves : after ≡ by (firstBroken (unitRules h (length image) a (length buffer))) (fetched h image (stripeOf (layoutIn h) a) (jOf (layoutIn h) a)) buffer
+abbrev pub ReadOut : Shelf → List ℕ → ℕ → List ℕ → Cost → List ℕ → Type 0
+ReadOut h image a buffer =
+    let v : Verdict = firstBroken (unitRules h (length image) a (length buffer)) in
+    let s : ℕ = stripeOf (layoutIn h) a in
+    let j : ℕ = jOf (layoutIn h) a in
+    Answered (costs v (readCost h s j) 0) v (fetched h image s j) buffer
 
 -- ---- unit write
 
@@ -129,9 +136,12 @@ writeReads h s j = cond (present h (unitIn h s j)) (cond (present h (unitIn h s 
 unfoldable pub writeWrites : Shelf → ℕ → ℕ → ℕ
 writeWrites h s j = cond (present h (unitIn h s j) && present h (unitIn h s (h .k - 1))) 2 1
 
-pub record Wrote (h : Shelf) (image : List ℕ) (a : ℕ) (unit : List ℕ) (answer : Cost) (after : List ℕ) : Type 0 where
-  pub answers : answer ≡ (let s : ℕ = stripeOf (layoutIn h) a in let j : ℕ = jOf (layoutIn h) a in costs (firstBroken (unitRules h (length image) a (length unit))) (writeReads h s j) (writeWrites h s j))
-  pub leaves : after ≡ by (firstBroken (unitRules h (length image) a (length unit))) (unitWritten h image (stripeOf (layoutIn h) a) (jOf (layoutIn h) a) unit) image
+abbrev pub Wrote : Shelf → List ℕ → ℕ → List ℕ → Cost → List ℕ → Type 0
+Wrote h image a unit =
+    let v : Verdict = firstBroken (unitRules h (length image) a (length unit)) in
+    let s : ℕ = stripeOf (layoutIn h) a in
+    let j : ℕ = jOf (layoutIn h) a in
+    Answered (costs v (writeReads h s j) (writeWrites h s j)) v (unitWritten h image s j unit) image
 
 -- ---- stripe write
 
@@ -147,9 +157,10 @@ stripeWritten h image s buffer =
 unfoldable pub stripeWrites : Shelf → ℕ → ℕ
 stripeWrites h s = count (λ i. present h (unitIn h s i)) (h .k)
 
-pub record WroteStripe (h : Shelf) (image : List ℕ) (s : ℕ) (buffer : List ℕ) (answer : Cost) (after : List ℕ) : Type 0 where
-  pub answers : answer ≡ costs (firstBroken (stripeRules h (length image) s (length buffer))) 0 (stripeWrites h s)
-  pub leaves : after ≡ by (firstBroken (stripeRules h (length image) s (length buffer))) (stripeWritten h image s buffer) image
+abbrev pub WroteStripe : Shelf → List ℕ → ℕ → List ℕ → Cost → List ℕ → Type 0
+WroteStripe h image s buffer =
+    let v : Verdict = firstBroken (stripeRules h (length image) s (length buffer)) in
+    Answered (costs v 0 (stripeWrites h s)) v (stripeWritten h image s buffer) image
 
 -- ---- lose
 
@@ -182,9 +193,10 @@ rebuilding verdict h =
       counts = by verdict (listFrom 0 64 (readFrom h (h .loss))) (zeros 64);
     }
 
-pub record Rebuilt (h : Shelf) (image : List ℕ) (answer : Rebuilding) (after : List ℕ) : Type 0 where
-  pub answers : answer ≡ rebuilding (firstBroken (rebuildRules h (length image))) h
-  pub leaves : after ≡ by (firstBroken (rebuildRules h (length image))) (rebuiltImage h image) image
+abbrev pub Rebuilt : Shelf → List ℕ → Rebuilding → List ℕ → Type 0
+Rebuilt h image =
+    let v : Verdict = firstBroken (rebuildRules h (length image)) in
+    Answered (rebuilding v h) v (rebuiltImage h image) image
 
 -- ---- scrub
 

@@ -1,16 +1,13 @@
 -- `parity::write` meets its contract: what it gives and leaves is as the verdict says. Assumes nothing.
 use mathlib.Core.Path.{sym, _∙_}
 use borrow.Author.Needs.{needs}
-use Rattle.parity.proofs.By.{accepted-gives, refused-gives, cost-none}
+use Rattle.parity.proofs.By.{refused-answers, accepted-answers}
 use Rattle.parity.proofs.Accepted.{unit-accepted}
 use Rattle.parity.proofs.write.Statement.{statement}
 use Rattle.parity.proofs.write.Tie as tie
 
 returns : tie.Need-returns
-returns c =
-    let judged = c .before .before .of-unit .ensures in
-    let refused = c .enum-told2 .given .1 in
-    record { answers = cost-none _ _ judged refused; leaves = refused-gives _ _ judged refused }
+returns c = refused-answers _ _ (c .before .before .of-unit .ensures) (c .enum-told2 .given .1)
 
 store-requires : tie.Need-store-requires
 store-requires c κs = unit-accepted _ _ _ _ .0 (sym (c .before .before .before .of-unit .ensures) ∙ c .before .enum-told .given .1)
@@ -18,10 +15,9 @@ store-requires c κs = unit-accepted _ _ _ _ .0 (sym (c .before .before .before 
 returns-2 : tie.Need-returns-2
 returns-2 c =
     let told = c .before .before .before .before in
-    let judged = told .before .before .of-unit .ensures in
     let passed = told .enum-told .given .1 in
     let done = c .before .before .store .ensures in
-    record { answers = rw (sym judged ∙ passed) (done .0); leaves = accepted-gives _ _ judged passed (done .1) }
+    accepted-answers _ _ (told .before .before .of-unit .ensures) passed (done .0) (done .1)
 
 pub write-spec : {M : Type 1} → statement M
 write-spec =

@@ -14,7 +14,7 @@ put-counts-requires : tie.Need-put-counts-requires
 put-counts-requires c κs =
     let at-rebuild = c .before .before .before .before .before in
     let passed = at-rebuild .before .before .before .before in
-    (passed .if1 .left, rebuilt-counts (at-rebuild .rebuild .ensures))
+    (passed .if1 .left, rebuilt-counts _ _ (at-rebuild .rebuild .ensures))
 
 returns-2 : tie.Need-returns-2
 returns-2 c =
@@ -32,7 +32,7 @@ put-requires c κs =
     let at-rebuild = at-enum-told .before .before .before .before .before .before .before .before .before .before in
     let at-shelf = at-rebuild .before .before in
     let start = at-shelf .before .before .before .before .before .before in
-    value-length (start .args .shelf .now) (rw (← at-shelf .shelf .ensures) (rebuilding-shelf (at-rebuild .rebuild .ensures) (at-enum-told .enum-told .given .1)))
+    value-length (start .args .shelf .now) (rw (← at-shelf .shelf .ensures) (rebuilding-shelf _ _ (at-rebuild .rebuild .ensures) (at-enum-told .enum-told .given .1)))
 
 returns-3 : tie.Need-returns-3
 returns-3 c =

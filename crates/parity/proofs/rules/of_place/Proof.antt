@@ -1,5 +1,5 @@
 -- `parity::rules::of_place` meets its contract: the rules of an image, then rule after rule. Assumes nothing.
-use mathlib.Core.Path.{_≡_, refl, sym, ap, _∙_}
+use mathlib.Core.Path.{_≡_, refl, ap, _∙_}
 use mathlib.Core.List.{[], _∷_, _++_}
 use Prim.Native.Nat.{_+_, _*_}
 use lib.Dec.{ltb}
@@ -12,7 +12,7 @@ use Rattle.parity.specs.Calls.{placeRules, placeRule, presentRule}
 use Rattle.parity.specs.inner.Judged.{imageRules}
 use Rattle.parity.proofs.Accepted.{rule-kept}
 use Rattle.parity.proofs.Ready.{present-place}
-use Rattle.parity.proofs.Verdicts.{also-rule, two-as-one, refused-already}
+use Rattle.parity.proofs.Verdicts.{shelf-passed, also-rule, two-as-one, refused-already}
 use Rattle.parity.proofs.rules.of_place.Statement.{statement}
 use Rattle.parity.proofs.rules.of_place.Tie as tie
 
@@ -23,7 +23,7 @@ returns c = refused-already _ (imageRules _ _) (c .before .before .of-image .ens
 offsets-requires : tie.Need-offsets-requires
 offsets-requires c κs =
     let told = c .before .before in
-    rule-kept _ _ .0 (sym (told .before .before .of-image .ensures) ∙ told .enum-told .given .1) .0
+    shelf-passed _ _ (told .before .before .of-image .ensures) (told .enum-told .given .1)
 
 -- the place is in range: a rule of the disk and one of the offset
 ranged : (c : tie.After-also2) → let args = c .before .before .before .before .before .before .before .args in

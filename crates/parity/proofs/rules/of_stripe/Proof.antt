@@ -1,18 +1,16 @@
 -- `parity::rules::of_stripe` meets its contract: rule after rule, in the order of their numbers. Assumes nothing.
-use mathlib.Core.Path.{_≡_, sym, ap₂, _∙_}
+use mathlib.Core.Path.{_≡_, ap₂, _∙_}
 use mathlib.Core.Bool.{true}
 use Prim.Native.Nat.{ℕ, _-_, _*_}
 use native.Mathlib.Omega.{arith}
 use borrow.Author.Needs.{needs}
-use Rattle.design.specs.declared.Verdict.the-variants.{Accepted}
 use Rattle.design.specs.Refusals.{firstBroken}
 use Rattle.design.specs.Shelf.{isShelf}
 use Rattle.design.proofs.ShelfTests.{shelf-parts}
 use Rattle.parity.specs.Calls.{stripeRules}
 use Rattle.parity.specs.inner.Judged.{imageRules, spanRules}
-use Rattle.parity.proofs.Accepted.{rule-kept}
 use Rattle.parity.proofs.Sized.{stripe-size-most}
-use Rattle.parity.proofs.Verdicts.{past-all, refused-already}
+use Rattle.parity.proofs.Verdicts.{shelf-passed, past-image, refused-already}
 use Rattle.parity.proofs.rules.of_stripe.Statement.{statement}
 use Rattle.parity.proofs.rules.of_stripe.Tie as tie
 
@@ -21,11 +19,8 @@ unfolding stripeRules
 returns c = refused-already _ (imageRules _ _) (c .before .before .of-image .ensures) (c .enum-told2 .given .1)
 
 -- rules 10 and 11 are kept
-image-kept : (c : tie.After-enum-told) → firstBroken (imageRules (c .before .before .before .args .shelf) (c .before .before .before .args .n)) ≡ Accepted
-image-kept c = sym (c .before .before .of-image .ensures) ∙ c .enum-told .given .1
-
 shelf-kept : (c : tie.After-enum-told) → isShelf (c .before .before .before .args .shelf) ≡ true
-shelf-kept c = rule-kept _ _ .0 (image-kept c) .0
+shelf-kept c = shelf-passed _ _ (c .before .before .of-image .ensures) (c .enum-told .given .1)
 
 stripes-requires : tie.Need-stripes-requires
 stripes-requires c κs = shelf-kept c
@@ -45,7 +40,7 @@ unfolding stripeRules
 returns-2 c =
     let told = c .before .before .before .before in
     let a = told .before .before .before .args in
-    past-all _ (imageRules _ _) (image-kept told)
+    past-image _ _ (told .before .before .of-image .ensures) (told .enum-told .given .1) _
     (c .of-span .ensures
     ∙ ap₂ (λ (most size : ℕ). firstBroken (spanRules (a .stripe) most (a .m) ((a .shelf .k - 1) * size))) (c .before .before .before .stripes .ensures) (c .before .unit-size .ensures))
 

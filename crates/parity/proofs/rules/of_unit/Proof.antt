@@ -4,13 +4,11 @@ use mathlib.Core.Bool.{true}
 use Prim.Native.Nat.{ℕ}
 use native.Mathlib.Nat.{one-mul}
 use borrow.Author.Needs.{needs}
-use Rattle.design.specs.declared.Verdict.the-variants.{Accepted}
 use Rattle.design.specs.Refusals.{firstBroken}
 use Rattle.design.specs.Shelf.{isShelf}
 use Rattle.parity.specs.Calls.{unitRules}
 use Rattle.parity.specs.inner.Judged.{imageRules, spanRules}
-use Rattle.parity.proofs.Accepted.{rule-kept}
-use Rattle.parity.proofs.Verdicts.{past-all, refused-already}
+use Rattle.parity.proofs.Verdicts.{shelf-passed, past-image, refused-already}
 use Rattle.parity.proofs.rules.of_unit.Statement.{statement}
 use Rattle.parity.proofs.rules.of_unit.Tie as tie
 
@@ -19,11 +17,8 @@ unfolding unitRules
 returns c = refused-already _ (imageRules _ _) (c .before .before .of-image .ensures) (c .enum-told2 .given .1)
 
 -- rules 10 and 11 are kept
-image-kept : (c : tie.After-enum-told) → firstBroken (imageRules (c .before .before .before .args .shelf) (c .before .before .before .args .n)) ≡ Accepted
-image-kept c = sym (c .before .before .of-image .ensures) ∙ c .enum-told .given .1
-
 shelf-kept : (c : tie.After-enum-told) → isShelf (c .before .before .before .args .shelf) ≡ true
-shelf-kept c = rule-kept _ _ .0 (image-kept c) .0
+shelf-kept c = shelf-passed _ _ (c .before .before .of-image .ensures) (c .enum-told .given .1)
 
 addresses-requires : tie.Need-addresses-requires
 addresses-requires c κs = shelf-kept c
@@ -37,7 +32,7 @@ unfolding unitRules
 returns-2 c =
     let told = c .before .before .before in
     let a = told .before .before .before .args in
-    past-all _ (imageRules _ _) (image-kept told)
+    past-image _ _ (told .before .before .of-image .ensures) (told .enum-told .given .1) _
     (c .of-span .ensures
     ∙ ap₂ (λ (most size : ℕ). firstBroken (spanRules (a .address) most (a .m) size)) (c .before .before .addresses .ensures) (c .before .unit-size .ensures ∙ sym (one-mul _)))
 

@@ -21,12 +21,14 @@ div-full-table c = some c
 rem-w : tie.Need-rem-w
 rem-w c = some c
 
-sub-parity-2 : tie.Need-sub-parity-2
-sub-parity-2 c = omega (arith, copy-lt c)
-
+-- the steps, each by its name
 returns : tie.Need-returns
 unfolding splitOf
 returns c = refl
+
+-- k - 1 - copy does not go below 0
+sub-parity-2 : tie.Need-sub-parity-2
+sub-parity-2 c = omega (arith, copy-lt c)
 
 pub split-of-spec : {M : Type 1} → statement M
 split-of-spec =

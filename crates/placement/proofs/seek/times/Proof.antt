@@ -11,14 +11,14 @@ use Rattle.placement.proofs.seek.times.Statement.{statement}
 use Rattle.placement.proofs.seek.times.Tie as tie
 
 abbrev Inv-loop : tie.InvT-loop
-Inv-loop table n d times₀ i₀ times i = (i ≤ n) × (times ≡ count (isDisk table d) i)
+Inv-loop table n d times₀ i₀ times i = (times ≡ count (isDisk table d) i) × (i ≤ n)
 
 abbrev μ-loop : tie.MeasureT-loop
 μ-loop table n d times₀ i₀ times i = n - i
 
 loop-holds : tie.Need-loop-holds Inv-loop μ-loop
 unfolding count
-loop-holds c = (omega arith, refl)
+loop-holds c = (refl, omega arith)
 
 add-times : tie.Need-add-times Inv-loop μ-loop
 add-times c =
@@ -29,14 +29,14 @@ loop-again : tie.Need-loop-again Inv-loop μ-loop
 loop-again c =
     let a = c .before .before .before in
     let table = a .before .args .table .now in
-    (omega arith, ⊎-elim (λ w. omega (arith, times-counted table _ (a .loop .i) (w .0 .taken))) (λ w. omega (arith, times-passed table _ (a .loop .i) (w .0 .left))) (c .if1 .came))
+    (⊎-elim (λ w. omega (arith, times-counted table _ (a .loop .i) (w .0 .taken))) (λ w. omega (arith, times-passed table _ (a .loop .i) (w .0 .left))) (c .if1 .came), omega arith)
 
 returns : tie.Need-returns Inv-loop μ-loop
 returns c =
     let a = c .before in
     let args = a .before .args in
     let e : a .loop .i ≡ args .n = omega arith in
-    a .loop .inv .1 ∙ ap (count (isDisk (args .table .now) (args .d))) e
+    a .loop .inv .0 ∙ ap (count (isDisk (args .table .now) (args .d))) e
 
 pub times-spec : {M : Type 1} → statement M
 times-spec =
