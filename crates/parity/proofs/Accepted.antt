@@ -6,7 +6,7 @@ use mathlib.Core.Bool.{true, not, true≢false}
 use mathlib.Core.List.{List, [], _∷_}
 use Prim.Native.Nat.{ℕ, _+_, _-_, _*_, _<_}
 use native.Mathlib.Omega.{arith}
-use lib.Dec.{ltb}
+use lib.Dec.{ltb, eqb}
 use lib.ListN.{length}
 use borrow.Author.Tests.{lt-ltb, ltb-true, eq-eqb, eqb-true}
 use Rattle.design.specs.declared.Loss.{Loss}
@@ -60,6 +60,29 @@ two-kept x y = (
   λ p. rule-kept x (y ∷ []) .1 (p .0, last-kept y .1 (p .1)),
 )
 
+-- the rules of an image, and one or two more that are kept exactly when P and Q hold
+module _ (h : Shelf) (image : List ℕ) (x : Rule) {P : Type 0} (p : (x .kept ≡ true) ↔ P) where
+  image-and-one : (firstBroken (shelfRule h ∷ imageRule h (length image) ∷ x ∷ []) ≡ Accepted) ↔ (Held h image × P)
+  image-and-one =
+      let at = image-kept h image (x ∷ []) in
+      let kept = last-kept x in
+      (λ e. let q = at .0 e in (q .0, p .0 (kept .0 (q .1))), λ q. at .1 (q .0, kept .1 (p .1 (q .1))))
+
+  image-and-two : (y : Rule) {Q : Type 0} → (y .kept ≡ true) ↔ Q → (firstBroken (shelfRule h ∷ imageRule h (length image) ∷ x ∷ y ∷ []) ≡ Accepted) ↔ (Held h image × P × Q)
+  image-and-two y q =
+      let at = image-kept h image (x ∷ y ∷ []) in
+      let kept = two-kept x y in (
+        λ e. let r = at .0 e in let both = kept .0 (r .1) in (r .0, p .0 (both .0), q .0 (both .1)),
+        λ r. at .1 (r .0, kept .1 (p .1 (r .1), q .1 (r .2))),
+      )
+
+-- a number below another, and a buffer of so many bytes
+below-exactly : (a b : ℕ) → (ltb a b ≡ true) ↔ (a < b)
+below-exactly a b = (ltb-true a b, lt-ltb a b)
+
+exactly-so-long : (n m : ℕ) → (eqb n m ≡ true) ↔ (n ≡ m)
+exactly-so-long n m = (eqb-true n m, eq-eqb n m)
+
 -- ---- the lost disk
 
 pub whole-exactly : (loss : Loss) → (isWhole loss ≡ true) ↔ (loss ≡ Nothing)
@@ -92,12 +115,8 @@ module _ (h : Shelf) (image : List ℕ) where
   pub whole-accepted : (firstBroken (wholeRules h (length image)) ≡ Accepted) ↔ WholeCall h image
   unfolding wholeRules
   whole-accepted =
-      let at = image-kept h image (wholeRule h ∷ []) in
-      let lost = whole-exactly (h .loss) in
-      let kept = last-kept (wholeRule h) in (
-        λ e. record { stored = at .0 e .0; whole = lost .0 (kept .0 (at .0 e .1)) },
-        λ w. at .1 (w .stored, kept .1 (lost .1 (w .whole))),
-      )
+      let at = image-and-one h image (wholeRule h) (whole-exactly (h .loss)) in
+      (λ e. let p = at .0 e in record { stored = p .0; whole = p .1 }, λ w. at .1 (w .stored, w .whole))
 
 -- ---- rebuild
 
@@ -112,12 +131,8 @@ pub record LostCall (h : Shelf) (image : List ℕ) : Type 0 where
 pub rebuild-accepted : (h : Shelf) (image : List ℕ) → (firstBroken (rebuildRules h (length image)) ≡ Accepted) ↔ LostCall h image
 unfolding rebuildRules
 rebuild-accepted h image =
-    let at = image-kept h image (lostRule h ∷ []) in
-    let lost = lost-exactly h in
-    let kept = last-kept (lostRule h) in (
-      λ e. record { stored = at .0 e .0; lost = lost .0 (kept .0 (at .0 e .1)) },
-      λ w. at .1 (w .stored, kept .1 (lost .1 (w .lost))),
-    )
+    let at = image-and-one h image (lostRule h) (lost-exactly h) in
+    (λ e. let p = at .0 e in record { stored = p .0; lost = p .1 }, λ w. at .1 (w .stored, w .lost))
 
 -- ---- lose
 
@@ -150,10 +165,9 @@ module _ (h : Shelf) (image : List ℕ) (a : ℕ) (unit : List ℕ) where
   pub unit-accepted : (firstBroken (unitRules h (length image) a (length unit)) ≡ Accepted) ↔ UnitCall h image a unit
   unfolding unitRules
   unit-accepted =
-      let at = image-kept h image (addressRule h a ∷ bufferRule h (length unit) 1 ∷ []) in
-      let kept = two-kept (addressRule h a) (bufferRule h (length unit) 1) in (
-        λ e. let q = kept .0 (at .0 e .1) in record { stored = at .0 e .0; address = ltb-true a _ (q .0); exact = omega (arith, eqb-true (length unit) (1 * unitSize h) (q .1)) },
-        λ w. at .1 (w .stored, kept .1 (lt-ltb a _ (w .address), eq-eqb (length unit) (1 * unitSize h) (omega (arith, w .exact)))),
+      let at = image-and-two h image (addressRule h a) (below-exactly a _) (bufferRule h (length unit) 1) (exactly-so-long (length unit) (1 * unitSize h)) in (
+        λ e. let p = at .0 e in record { stored = p .0; address = p .1; exact = omega (arith, p .2) },
+        λ w. at .1 (w .stored, w .address, omega (arith, w .exact)),
       )
 
 -- the stripe and the data of its address
@@ -173,11 +187,8 @@ stripe-rise h n s m = refl
 pub stripe-write-accepted : (h : Shelf) (image : List ℕ) (s : ℕ) (buffer : List ℕ) → (firstBroken (stripeRules h (length image) s (length buffer)) ≡ Accepted) ↔ StripeCall h image s buffer
 unfolding stripeRules
 stripe-write-accepted h image s buffer =
-    let at = image-kept h image (stripeRule h s ∷ bufferRule h (length buffer) (h .k - 1) ∷ []) in
-    let kept = two-kept (stripeRule h s) (bufferRule h (length buffer) (h .k - 1)) in (
-      λ e. let q = kept .0 (at .0 e .1) in record { stored = at .0 e .0; stripe = ltb-true s _ (q .0); exact = eqb-true _ _ (q .1) },
-      λ w. at .1 (w .stored, kept .1 (lt-ltb s _ (w .stripe), eq-eqb _ _ (w .exact))),
-    )
+    let at = image-and-two h image (stripeRule h s) (below-exactly s _) (bufferRule h (length buffer) (h .k - 1)) (exactly-so-long _ _) in
+    (λ e. let p = at .0 e in record { stored = p .0; stripe = p .1; exact = p .2 }, λ w. at .1 (w .stored, w .stripe, w .exact))
 
 -- ---- show place
 
@@ -194,11 +205,10 @@ pub record PlaceCall (h : Shelf) (image : List ℕ) (d o : ℕ) : Type 0 where
 pub show-place-accepted : (h : Shelf) (image : List ℕ) (d o : ℕ) → (firstBroken (placeRules h (length image) d o) ≡ Accepted) ↔ PlaceCall h image d o
 unfolding placeRules
 show-place-accepted h image d o =
-    let at = image-kept h image (placeRule h d o ∷ presentRule h (d * depth h + o) ∷ []) in
-    let kept = two-kept (placeRule h d o) (presentRule h (d * depth h + o)) in (
+    let at = image-and-two h image (placeRule h d o) (λ e. e, λ e. e) (presentRule h (d * depth h + o)) (λ e. e, λ e. e) in (
       λ e.
-          let q = kept .0 (at .0 e .1) in
-          let l = both (ltb d (h .v)) (ltb o (depth h)) (q .0) in
-          record { stored = at .0 e .0; disk = ltb-true d _ (l .0); offset = ltb-true o _ (l .1); here = q .1 },
-      λ w. at .1 (w .stored, kept .1 (both-of (lt-ltb d _ (w .disk)) (lt-ltb o _ (w .offset)), w .here)),
+          let p = at .0 e in
+          let l = both (ltb d (h .v)) (ltb o (depth h)) (p .1) in
+          record { stored = p .0; disk = ltb-true d _ (l .0); offset = ltb-true o _ (l .1); here = p .2 },
+      λ w. at .1 (w .stored, both-of (lt-ltb d _ (w .disk)) (lt-ltb o _ (w .offset)), w .here),
     )

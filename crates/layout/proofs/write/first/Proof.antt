@@ -37,6 +37,13 @@ start c = c .before .before .before .before
 abbrev numbers : tie.After-number Inv-loop μ-loop → List ℕ
 numbers c = laterNumbers (start c .args .shelf) (c .before .before .unit-size .result)
 
+-- what the loop leaves: the numbers after v, in the document's order
+all-put : (c : tie.After-loop Inv-loop μ-loop) → let n = c .before .before .before .before in
+    Put (n .number .last .0) (n .number .result) (joined 6 (numberWord (numbers n))) (c .before .loop .at) (c .before .loop .out)
+all-put c =
+    let over : c .before .loop .i ≡ 6 = omega (arith, c .before .loop .inv .0, c .loop-test .left) in
+    rw over at (c .before .loop .inv .1)
+
 -- for the other numbers too, and the line end
 later-fit : (c : tie.After-number Inv-loop μ-loop) → Fits (c .number .last .0) (c .number .result) (joined 6 (numberWord (numbers c)) ++ lineEnd ∷ [])
 later-fit c = fits-rest (all-fits (c .before .before)) (c .number .ensures)
@@ -62,12 +69,6 @@ loop-again c =
     (omega arith, put-next (numberWord (numbers (turn .before .before .before .before))) (turn .before .loop .i) (turn-fits turn) (turn .before .loop .inv .1) (written .spaced-number .ensures))
 
 -- ---- the end of the line
-
-all-put : (c : tie.After-loop Inv-loop μ-loop) → let n = c .before .before .before .before in
-    Put (n .number .last .0) (n .number .result) (joined 6 (numberWord (numbers n))) (c .before .loop .at) (c .before .loop .out)
-all-put c =
-    let over : c .before .loop .i ≡ 6 = omega (arith, c .before .loop .inv .0, c .loop-test .left) in
-    rw over at (c .before .loop .inv .1)
 
 line-end-requires : tie.Need-line-end-requires Inv-loop μ-loop
 line-end-requires c κs = omega (arith, fits-rest (later-fit (c .before .before .before .before .before)) (all-put (c .before)) .room)

@@ -62,6 +62,17 @@ shape-of-requires c κs = c .before .before .before .before .before .before .bef
 loop-holds : tie.Need-loop-holds Inv-loop μ-loop
 loop-holds c = (omega arith, restored-start (start c .args .shelf) (start c .pre .shelf) _ (start c .pre .size))
 
+-- ---- after the loop: the units at all offsets are restored
+
+same-length : tie.Need-same-length Inv-loop μ-loop
+same-length c = c .before .loop .inv .1 .len ∙ sym (start (c .before .before) .pre .size)
+
+returns-2 : tie.Need-returns-2 Inv-loop μ-loop
+returns-2 c =
+    let s = start (c .before .before) in
+    let deep : c .before .before .shape-of .result .depth ≡ depth (s .args .shelf) = ap (λ (x : Shape). x .depth) (c .before .before .shape-of .ensures) in
+    restored-disk (s .args .shelf) (s .pre .shelf) (s .args .image .now) (s .pre .size) (c .before .loop .inv .1) (omega arith)
+
 -- ---- at offset o
 
 abbrev shelf : tie.In-loop Inv-loop μ-loop → Shelf
@@ -141,17 +152,6 @@ loop-again c =
       omega arith,
       restored-next (shelf turn) P o (turn .loop-test .taken) (s .args .image .now) (turn .before .loop .image) _ (s .pre .size) (turn .before .loop .inv .1) (i .index-of .ensures) (c .before .before .restore .ensures),
     )
-
--- ---- after it
-
-same-length : tie.Need-same-length Inv-loop μ-loop
-same-length c = c .before .loop .inv .1 .len ∙ sym (start (c .before .before) .pre .size)
-
-returns-2 : tie.Need-returns-2 Inv-loop μ-loop
-returns-2 c =
-    let s = start (c .before .before) in
-    let deep : c .before .before .shape-of .result .depth ≡ depth (s .args .shelf) = ap (λ (x : Shape). x .depth) (c .before .before .shape-of .ensures) in
-    restored-disk (s .args .shelf) (s .pre .shelf) (s .args .image .now) (s .pre .size) (c .before .loop .inv .1) (omega arith)
 
 pub restore-disk-spec : {M : Type 1} → statement M
 restore-disk-spec =
