@@ -1,7 +1,4 @@
 // Losing a disk and rebuilding it: the calls that change the shelf value.
-ghost use mathlib.Core.Path.{_≡_};
-ghost use lib.ListN.{length};
-ghost use Rattle.host.specs.Numbers.{numbered};
 ghost use Rattle.host.specs.Stored.{HostLost, HostRebuilt};
 use crate::OTHER_BUFFER;
 use crate::numbers;
@@ -23,16 +20,6 @@ pub extern "C" fn shqemtuli_lose(shelf: &mut [u8], disk: usize) -> usize
     0
 }
 
-// A reference to an array does not tell its length, so the caller does.
-fn put_counts(out: &mut [u8], counts: &[usize; 64])
-    requires { ⌜ (length (now out) ≡ 256) × (length (now counts) ≡ 64) ⌝ }
-    ensures { λ _. ⌜ now (out .exit) ≡ numbered (now (out .entry)) 0 (now (counts .entry)) ⌝ }
-{
-    for i in 0..64 {
-        numbers::put(out, i, counts[i]);
-    }
-}
-
 // Restores the lost disk; the units read from each of 64 disks go into 256 bytes.
 #[no_mangle]
 pub extern "C" fn shqemtuli_rebuild(shelf: &mut [u8], image: &mut [u8], counts: &mut [u8]) -> usize
@@ -43,7 +30,7 @@ pub extern "C" fn shqemtuli_rebuild(shelf: &mut [u8], image: &mut [u8], counts: 
     }
     let answer = parity::rebuild(value::shelf(shelf), image);
     let read = answer.counts;
-    put_counts(counts, &read);
+    numbers::put_all(counts, 0, &read);
     let verdict = answer.verdict;
     let Verdict::Accepted = verdict else {
         return numbers::of_verdict(verdict);

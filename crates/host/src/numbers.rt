@@ -2,7 +2,7 @@
 ghost use mathlib.Core.Path.{_≡_};
 ghost use Prim.Native.Nat.{_+_, _*_, _≤_, _<_};
 ghost use lib.ListN.{length};
-ghost use Rattle.host.specs.Numbers.{numberAt, withNumber};
+ghost use Rattle.host.specs.Numbers.{numberAt, withNumber, numbered};
 ghost use Rattle.host.specs.Answers.{numberOf};
 use design::Verdict;
 
@@ -24,7 +24,7 @@ pub fn get(bytes: &[u8], i: usize) -> usize
         + wide(bytes[at + 3])
 }
 
-pub fn put(bytes: &mut [u8], i: usize, x: usize)
+fn put(bytes: &mut [u8], i: usize, x: usize)
     requires { ⌜ 4 * i + 4 ≤ length (now bytes) ⌝ }
     ensures { λ _. ⌜ now (bytes .exit) ≡ withNumber (now (bytes .entry)) i x ⌝ }
 {
@@ -33,6 +33,16 @@ pub fn put(bytes: &mut [u8], i: usize, x: usize)
     bytes[at + 1] = (x / 65536 % 256) as u8;
     bytes[at + 2] = (x / 256 % 256) as u8;
     bytes[at + 3] = (x % 256) as u8;
+}
+
+// Puts the numbers of a list one after another, from number `from` on.
+pub fn put_all(bytes: &mut [u8], from: usize, list: &[usize])
+    requires { ⌜ 4 * (from + length (now list)) ≤ length (now bytes) ⌝ }
+    ensures { λ _. ⌜ now (bytes .exit) ≡ numbered (now (bytes .entry)) from (now (list .entry)) ⌝ }
+{
+    for i in 0..list.len() {
+        put(bytes, from + i, list[i]);
+    }
 }
 
 // 0, or the refusal's number.

@@ -2,7 +2,6 @@
 ghost use Rattle.host.specs.Places.{spotNumbers, HostPlaced, HostLookedUp, HostRan, spotsInto};
 ghost use mathlib.Core.Path.{_≡_};
 ghost use mathlib.Core.Bool.{true};
-ghost use mathlib.Core.List.{[], _∷_};
 ghost use Prim.Native.Nat.{_+_, _*_, _/_, _%_, _≤_};
 ghost use lib.ListN.{length};
 ghost use Rattle.design.specs.Shelf.{isShelf};
@@ -23,11 +22,8 @@ fn put_spot(out: &mut [u8], i: usize, spot: Spot)
     requires { ⌜ 16 * i + 16 ≤ length (now out) ⌝ }
     ensures { λ _. ⌜ now (out .exit) ≡ numbered (now (out .entry)) (4 * i) (spotNumbers spot) ⌝ }
 {
-    let at = 4 * i;
-    numbers::put(out, at, spot.disk);
-    numbers::put(out, at + 1, spot.offset);
-    numbers::put(out, at + 2, spot.parity_disk);
-    numbers::put(out, at + 3, spot.parity_offset);
+    let list = [spot.disk, spot.offset, spot.parity_disk, spot.parity_offset];
+    numbers::put_all(out, 4 * i, &list);
 }
 
 // The place of an address: disk, offset, and those of its parity, in 16 bytes.
@@ -48,15 +44,6 @@ pub extern "C" fn shqemtuli_place(shelf: &[u8], address: usize, out: &mut [u8]) 
     }
 }
 
-fn put_three(out: &mut [u8], stripe: usize, address: usize, parity: usize)
-    requires { ⌜ length (now out) ≡ 12 ⌝ }
-    ensures { λ _. ⌜ now (out .exit) ≡ numbered (now (out .entry)) 0 (stripe ∷ address ∷ parity ∷ []) ⌝ }
-{
-    numbers::put(out, 0, stripe);
-    numbers::put(out, 1, address);
-    numbers::put(out, 2, parity);
-}
-
 // What stands at a place: stripe, address or 0, and 1 for parity or 0, in 12 bytes.
 #[no_mangle]
 pub extern "C" fn shqemtuli_look_up(
@@ -73,11 +60,11 @@ pub extern "C" fn shqemtuli_look_up(
     let found = placement::look_up(value::shelf(shelf), disk, offset);
     match found {
         LookUp::Data { stripe, address } => {
-            put_three(out, stripe, address, 0);
+            numbers::put_all(out, 0, &[stripe, address, 0]);
             0
         }
         LookUp::Parity(stripe) => {
-            put_three(out, stripe, 0, 1);
+            numbers::put_all(out, 0, &[stripe, 0, 1]);
             0
         }
         LookUp::Refused(refusal) => refusal.number(),

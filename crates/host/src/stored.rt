@@ -24,8 +24,7 @@ fn put_cost(cost: &mut [u8], answer: Cost) -> usize
     requires { ⌜ length (now cost) ≡ 8 ⌝ }
     ensures { λ r. ⌜ CostGiven (now (cost .entry)) r (now (cost .exit)) answer ⌝ }
 {
-    numbers::put(cost, 0, answer.read);
-    numbers::put(cost, 1, answer.written);
+    numbers::put_all(cost, 0, &[answer.read, answer.written]);
     let verdict = answer.verdict;
     numbers::of_verdict(verdict)
 }
@@ -93,7 +92,7 @@ pub extern "C" fn shqemtuli_scrub(shelf: &[u8], image: &[u8], out: &mut [u8]) ->
         return OTHER_BUFFER;
     }
     let answer = parity::scrub(value::shelf(shelf), image);
-    numbers::put(out, 0, answer.wrong);
+    numbers::put_all(out, 0, &[answer.wrong]);
     let verdict = answer.verdict;
     numbers::of_verdict(verdict)
 }

@@ -3,8 +3,7 @@ ghost use mathlib.Core.Path.{_≡_};
 ghost use mathlib.Core.List.{_++_};
 ghost use Prim.Native.Nat.{_≤_};
 ghost use lib.ListN.{length, take, drop};
-ghost use Rattle.host.specs.Numbers.{numbered};
-ghost use Rattle.host.specs.Value.{lossNumber, lossOf, shelfIn, numbersIn, withShelf};
+ghost use Rattle.host.specs.Value.{lossNumber, lossOf, shelfIn, withShelf};
 use crate::numbers;
 use design::Loss;
 use design::Shelf;
@@ -68,21 +67,6 @@ pub fn shelf(bytes: &[u8]) -> Shelf
     }
 }
 
-fn put_numbers(bytes: &mut [u8], shelf: Shelf)
-    requires { ⌜ length (now bytes) ≡ 2080 ⌝ }
-    ensures { λ _. ⌜ now (bytes .exit) ≡ numbered (now (bytes .entry)) 0 (numbersIn shelf) ⌝ }
-{
-    numbers::put(bytes, 0, shelf.v);
-    numbers::put(bytes, 1, shelf.k);
-    numbers::put(bytes, 2, shelf.b);
-    numbers::put(bytes, 3, shelf.T);
-    numbers::put(bytes, 4, shelf.u);
-    numbers::put(bytes, 5, shelf.r);
-    numbers::put(bytes, 6, shelf.lambda);
-    let loss = shelf.loss;
-    numbers::put(bytes, 7, loss_number(loss));
-}
-
 // A reference to an array does not tell its length, so the caller does.
 fn put_table(bytes: &mut [u8], table: &[u8; 2048])
     requires { ⌜ (length (now bytes) ≡ 2080) × (length (now table) ≡ 2048) ⌝ }
@@ -98,7 +82,18 @@ pub fn put(bytes: &mut [u8], shelf: Shelf)
     requires { ⌜ length (now bytes) ≡ 2080 ⌝ }
     ensures { λ _. ⌜ now (bytes .exit) ≡ withShelf (now (bytes .entry)) shelf ⌝ }
 {
-    put_numbers(bytes, shelf);
+    let loss = shelf.loss;
+    let list = [
+        shelf.v,
+        shelf.k,
+        shelf.b,
+        shelf.T,
+        shelf.u,
+        shelf.r,
+        shelf.lambda,
+        loss_number(loss),
+    ];
+    numbers::put_all(bytes, 0, &list);
     let table = shelf.table;
     put_table(bytes, &table);
 }

@@ -24,21 +24,21 @@ answered c given = rw (← c .before .shelf .ensures, ← c .look-up .ensures) (
 
 returns-2 : tie.Need-returns-2
 returns-2 c =
-    let at-put-three = c .before .before in
-    let at-found = at-put-three .before .before .before in
-    answered (at-found .before .before) (found-data _ (at-found .found .given .1) (at-put-three .put-three .ensures))
+    let at-put-all = c .before .before in
+    let at-found = at-put-all .before .before .before .before in
+    answered (at-found .before .before) (found-data _ (at-found .found .given .1) (at-put-all .put-all .ensures))
 
 -- of a parity unit: its stripe, no address, and 1
-parity-put : (c : tie.After-put-three2) →
-    let at-found2 = c .before .before .before in
-    c .put-three2 .last .0 ≡ numbered (start (at-found2 .before .before) .args .out .now) 0 (at-found2 .found2 .given .0 .0 ∷ 0 ∷ 1 ∷ [])
-parity-put c = c .put-three2 .ensures
+parity-put : (c : tie.After-put-all2) →
+    let at-found2 = c .before .before .before .before in
+    c .put-all2 .last .0 ≡ numbered (start (at-found2 .before .before) .args .out .now) 0 (at-found2 .found2 .given .0 .0 ∷ 0 ∷ 1 ∷ [])
+parity-put c = c .put-all2 .ensures
 
 returns-3 : tie.Need-returns-3
 returns-3 c =
-    let at-put-three2 = c .before .before in
-    let at-found2 = at-put-three2 .before .before .before in
-    answered (at-found2 .before .before) (found-parity _ (at-found2 .found2 .given .1) (parity-put at-put-three2))
+    let at-put-all2 = c .before .before in
+    let at-found2 = at-put-all2 .before .before .before .before in
+    answered (at-found2 .before .before) (found-parity _ (at-found2 .found2 .given .1) (parity-put at-put-all2))
 
 returns-4 : tie.Need-returns-4
 returns-4 c =
@@ -53,7 +53,9 @@ shqemtuli-look-up-spec =
     (λ c κs. search needs)
     (λ c κs. search needs)
     (λ c. search needs)
+    (λ c. search needs)
     (λ c κs. search needs)
+    (λ c. search needs)
     (λ c. search needs)
     (λ c κs. search needs)
     (λ c. search needs)

@@ -2,7 +2,6 @@
 use borrow.Author.Needs.{needs}
 use mathlib.Core.Path.{refl}
 use native.Mathlib.Omega.{arith}
-use Rattle.host.proofs.Numbering.{numbered-one}
 use Rattle.host.proofs.Answering.{into-other, into-fits}
 use Rattle.host.proofs.stored.shqemtuli_scrub.Statement.{statement}
 use Rattle.host.proofs.stored.shqemtuli_scrub.Tie as tie
@@ -10,19 +9,16 @@ use Rattle.host.proofs.stored.shqemtuli_scrub.Tie as tie
 returns : tie.Need-returns
 returns c = into-other (c .if1 .taken) refl refl
 
-put-requires : tie.Need-put-requires
-put-requires c κs = omega (arith, c .before .before .before .if1 .left)
+put-all-requires : tie.Need-put-all-requires
+put-all-requires c κs = omega (arith, c .before .before .before .before .if1 .left)
 
 returns-2 : tie.Need-returns-2
 returns-2 c =
-    let at-put = c .before .before .before in
-    let at-scrub = at-put .before .before in
+    let at-put-all = c .before .before .before in
+    let at-scrub = at-put-all .before .before .before in
     let at-shelf = at-scrub .before in
     let passed = at-shelf .before in
-    let start = passed .before .before .before .before in
-    let out = start .args .out .now in
-    let wrong = numbered-one out 0 _ (at-put .put .ensures) in
-    rw (← at-shelf .shelf .ensures, ← at-scrub .scrub .ensures) (into-fits (passed .if1 .left) (c .of-verdict .ensures, wrong))
+    rw (← at-shelf .shelf .ensures, ← at-scrub .scrub .ensures) (into-fits (passed .if1 .left) (c .of-verdict .ensures, at-put-all .put-all .ensures))
 
 pub shqemtuli-scrub-spec : {M : Type 1} → statement M
 shqemtuli-scrub-spec =
@@ -31,7 +27,8 @@ shqemtuli-scrub-spec =
     returns
     (λ c κs. search needs)
     (λ c κs. search needs)
-    put-requires
+    (λ c. search needs)
+    put-all-requires
     (λ c κs. search needs)
     (λ c. search needs)
     returns-2)
