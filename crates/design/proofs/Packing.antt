@@ -1,4 +1,5 @@
--- Laws of writing back: pieces packed one after another, the sheet that they make, and the three ways in which a call ends.
+-- Laws of writing back: what is no part of a sheet, pieces packed one after another, the sheet that they make, and the three ways in which
+-- a call ends.
 -- Assumes nothing.
 use mathlib.Core.Path.{_≡_, refl, sym, ap, ap₂, _∙_}
 use mathlib.Core.Bool.{true, false}
@@ -17,6 +18,7 @@ use Rattle.fields.specs.Field.{withField, Wrote}
 use Rattle.fields.specs.declared.Stored.{Stored}
 use Rattle.fields.proofs.Writes.{Inside, length-withField}
 use Rattle.fields.proofs.Laws.{wrote-done}
+use Rattle.design.specs.declared.Loss.the-variants.{Nothing}
 use Rattle.design.specs.declared.Shelf.{Shelf}
 use Rattle.design.specs.declared.WriteBack.the-variants as WriteBack
 use Rattle.design.specs.declared.Refusal.the-variants.{NotAShelf, OtherBuffer}
@@ -24,6 +26,28 @@ use Rattle.design.specs.Refusals.{firstBroken}
 use Rattle.design.specs.Sheet.{sheetLength}
 use Rattle.design.specs.Shelf.{Piece, packed, headerIn, numbersIn, sheetIn, isShelf, backRules, backAnswer, backBuffer, WroteBack}
 use Rattle.design.proofs.Shelf.{the-type}
+
+-- the shelf with no disk lost
+abbrev pub whole : Shelf → Shelf
+whole h =
+    record {
+      v = h .v;
+      k = h .k;
+      b = h .b;
+      T = h .T;
+      u = h .u;
+      r = h .r;
+      lambda = h .lambda;
+      table = h .table;
+      loss = Nothing;
+    }
+
+-- the lost disk is not part of a sheet
+pub loss-unwritten : (h : Shelf) → sheetIn (whole h) ≡ sheetIn h
+unfolding sheetIn headerIn
+loss-unwritten h = refl
+
+-- ---- pieces
 
 -- the bits that the pieces take
 unfoldable pub bitsOf : List Piece → ℕ

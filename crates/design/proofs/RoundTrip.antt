@@ -11,7 +11,6 @@ use lib.ListN.{length, getD}
 use lib.Seq.{getD-take}
 use borrow.Author.Tests.{ltb-true, ltb-false, le-leb, eq-eqb}
 use Rattle.fields.proofs.Writes.{IsBytes}
-use Rattle.design.specs.declared.Loss.the-variants.{Nothing}
 use Rattle.design.specs.declared.Opened.{Opened}
 use Rattle.design.specs.declared.Refusal.{Refusal}
 use Rattle.design.specs.declared.Shelf.{Shelf}
@@ -28,27 +27,8 @@ use Rattle.design.proofs.ShelfTests.{IsShelf, shelf-parts, shelf-whole}
 use Rattle.design.proofs.Refused.{accepted-shelf, refused-empty}
 use Rattle.design.proofs.Accepted.{disks-below, filling-zero, accepted-well-formed, balanced-as-counted}
 use Rattle.design.proofs.Standing.{numbers-standing, standing-numbers}
+use Rattle.design.proofs.Packing.{whole}
 use Rattle.design.proofs.Written.{disksIn, SheetOf, length-disks, one-sheet, sheet-bits, bytes-sheet, room, written}
-
--- the shelf with no disk lost
-abbrev pub whole : Shelf → Shelf
-whole h =
-    record {
-      v = h .v;
-      k = h .k;
-      b = h .b;
-      T = h .T;
-      u = h .u;
-      r = h .r;
-      lambda = h .lambda;
-      table = h .table;
-      loss = Nothing;
-    }
-
--- the lost disk is not part of a sheet
-pub loss-unwritten : (h : Shelf) → sheetIn (whole h) ≡ sheetIn h
-unfolding sheetIn headerIn
-loss-unwritten h = refl
 
 -- a lost disk below v makes no difference
 whole-shelf : (h : Shelf) → lossBelow (h .loss) (h .v) ≡ true → isShelf (whole h) ≡ isShelf h

@@ -20,7 +20,8 @@ use Rattle.design.specs.Shelf.{isShelf, sheetIn, backRules, backAnswer, 
 use Rattle.design.proofs.Lowest.{keptOf, accepts-exactly}
 use Rattle.design.proofs.Refused.{back-rise}
 use Rattle.design.proofs.Written.{length-sheet}
-use Rattle.design.proofs.RoundTrip.{whole, written-opens}
+use Rattle.design.proofs.Packing.{whole}
+use Rattle.design.proofs.RoundTrip.{written-opens}
 
 pub wroteBack-unique : (h : Shelf) (buffer : List ℕ) (r r′ : WriteBack) (after after′ : List ℕ)
     → WroteBack h buffer r after → WroteBack h buffer r′ after′ → (r ≡ r′) × (after ≡ after′)

@@ -7,6 +7,7 @@ ghost use Rattle.design.specs.Sheet.{sheetLength};
 ghost use Rattle.design.specs.Shelf.{isShelf, packed, headerIn, numbersIn, sheetIn, WroteBack};
 use crate::Refusal;
 use crate::Shelf;
+use crate::Table;
 use crate::WriteBack;
 use crate::read;
 use crate::rules;
@@ -32,7 +33,7 @@ fn write_header(shelf: Shelf, sheet: &mut [u8])
 }
 
 // The first n disk numbers of the table, from bit 48 on. A reference to an array does not tell its length, so the caller does.
-fn write_numbers(table: &[u8; 2048], n: usize, sheet: &mut [u8])
+fn write_numbers(table: &Table, n: usize, sheet: &mut [u8])
     requires { ⌜ (n ≤ 2048) × (length (now table) ≡ 2048) × (length (now sheet) ≡ sheetLength n) ⌝ }
     requires { ⌜ ((i : ℕ) → i < n → getD (now table) i 0 < 64) ⌝ }
     ensures { λ _. ⌜ now (sheet .exit) ≡ packed (now (sheet .entry)) 48 (numbersIn (take n (now (table .entry)))) ⌝ }

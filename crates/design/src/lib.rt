@@ -72,6 +72,9 @@ pub enum Repeat {
     Nothing,
 }
 
+// The disk numbers of the tuples, one tuple after another.
+pub type Table = [u8; Shelf::PLACES_MOST];
+
 // A shelf value: the numbers of its sheet, what opening counted, the disk numbers tuple after tuple (zero past b·k),
 // and the lost disk.
 pub struct Shelf {
@@ -82,7 +85,7 @@ pub struct Shelf {
     pub u: usize,
     pub r: usize,
     pub lambda: usize,
-    pub table: [u8; 2048],
+    pub table: Table,
     pub loss: Loss,
 }
 

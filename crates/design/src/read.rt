@@ -9,6 +9,7 @@ use crate::Loss;
 use crate::Opened;
 use crate::Refusal;
 use crate::Shelf;
+use crate::Table;
 use crate::Verdict;
 use crate::reader;
 use crate::rules;
@@ -47,7 +48,7 @@ fn filling_zero(sheet: &[u8], n: usize) -> bool
 }
 
 // The table: n disk numbers, and zero past them.
-fn table_of(sheet: &[u8], n: usize) -> [u8; 2048]
+fn table_of(sheet: &[u8], n: usize) -> Table
     requires { ⌜ (n ≤ 2048) × (length (now sheet) ≡ sheetLength n) ⌝ }
     ensures { λ r. ⌜ r ≡ tableOf (now (sheet .entry)) n ⌝ }
 {
@@ -79,7 +80,7 @@ fn open_table(sheet: &[u8], v: usize, k: usize, b: usize, t: usize, u: usize) ->
     if !tally::disks_even(&counts, v, r) {
         return refused(Refusal::DisksUneven);
     }
-    let lambda = counts[64] as usize;
+    let lambda = counts[Shelf::V_MOST] as usize;
     if !tally::pairs_even(&counts, v, lambda) {
         return refused(Refusal::PairsUneven);
     }

@@ -10,6 +10,7 @@ ghost use Rattle.design.specs.Shelf.{zeroPast, lossBelow, isShelf};
 use crate::Loss;
 use crate::Repeat;
 use crate::Shelf;
+use crate::Table;
 use crate::tally;
 
 // Rule 3. A garbage shelf value may have any numbers: b is bounded before it is multiplied.
@@ -57,7 +58,7 @@ fn wide(entry: u8) -> usize
 }
 
 // Rule 5, of the first n entries.
-pub fn disks_below(table: &[u8; 2048], n: usize, v: usize) -> bool
+pub fn disks_below(table: &Table, n: usize, v: usize) -> bool
     requires { ⌜ n ≤ 2048 ⌝ }
     ensures { λ r. ⌜ r ≡ every n (λ i. ltb (getD (now (table .entry)) i 0) v) ⌝ }
 {
@@ -70,7 +71,7 @@ pub fn disks_below(table: &[u8; 2048], n: usize, v: usize) -> bool
 }
 
 // The search for a disk twice in the tuple of k entries from `from` on: it stops at the first pair found.
-fn twice_in(table: &[u8; 2048], from: usize, k: usize) -> Repeat
+fn twice_in(table: &Table, from: usize, k: usize) -> Repeat
     requires { ⌜ from + k ≤ 2048 ⌝ }
     ensures { λ r. ⌜ r ≡ repeated (λ p. getD (now (table .entry)) (from + p) 0) k ⌝ }
 {
@@ -92,7 +93,7 @@ fn twice_in(table: &[u8; 2048], from: usize, k: usize) -> Repeat
 }
 
 // Rule 6, of b tuples of k.
-pub fn none_twice(table: &[u8; 2048], k: usize, b: usize) -> bool
+pub fn none_twice(table: &Table, k: usize, b: usize) -> bool
     requires { ⌜ b * k ≤ 2048 ⌝ }
     ensures { λ r. ⌜ r ≡ noneTwice (inTable 0 k b (now (table .entry))) ⌝ }
 {
@@ -105,11 +106,11 @@ pub fn none_twice(table: &[u8; 2048], k: usize, b: usize) -> bool
 }
 
 // The entries from n on are zero: so is what they come to by "or", with no way out of the loop, which the back end turns into vectors.
-pub fn zero_past(table: &[u8; 2048], n: usize) -> bool
+pub fn zero_past(table: &Table, n: usize) -> bool
     ensures { λ r. ⌜ r ≡ zeroPast (now (table .entry)) n ⌝ }
 {
     let mut any: u8 = 0;
-    for i in n..2048 {
+    for i in n..Shelf::PLACES_MOST {
         any |= table[i];
     }
     any == 0

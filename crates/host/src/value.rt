@@ -7,6 +7,7 @@ ghost use Rattle.host.specs.Value.{lossNumber, lossOf, shelfIn, withShel
 use crate::numbers;
 use design::Loss;
 use design::Shelf;
+use design::Table;
 
 // The bytes of a shelf value.
 pub const SIZE: usize = 2080;
@@ -30,7 +31,7 @@ fn loss_number(loss: Loss) -> usize
     }
 }
 
-fn table(bytes: &[u8]) -> [u8; 2048]
+fn table(bytes: &[u8]) -> Table
     requires { ⌜ length (now bytes) ≡ 2080 ⌝ }
     ensures { λ r. ⌜ r ≡ drop 32 (now (bytes .entry)) ⌝ }
 {
@@ -68,7 +69,7 @@ pub fn shelf(bytes: &[u8]) -> Shelf
 }
 
 // A reference to an array does not tell its length, so the caller does.
-fn put_table(bytes: &mut [u8], table: &[u8; 2048])
+fn put_table(bytes: &mut [u8], table: &Table)
     requires { ⌜ (length (now bytes) ≡ 2080) × (length (now table) ≡ 2048) ⌝ }
     ensures { λ _. ⌜ now (bytes .exit) ≡ take 32 (now (bytes .entry)) ++ now (table .entry) ⌝ }
 {

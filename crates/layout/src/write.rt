@@ -11,7 +11,9 @@ ghost use Rattle.layout.specs.Calls.{lineRoom};
 ghost use Rattle.layout.specs.inner.Steps.{Fits, Put, entryWord, dataWords, rankedLine, Reckoned};
 use crate::digits;
 use design::Shelf;
+use design::Table;
 use placement::fast;
+use placement::fast::PerEntry;
 
 fn line_end(out: &mut [u8], at: usize) -> usize
     requires { ⌜ at < length (now out) ⌝ }
@@ -77,8 +79,8 @@ fn wider(rank: u16) -> usize
 fn place(
     out: &mut [u8],
     at: usize,
-    table: &[u8; 2048],
-    ranks: &[u16; 2048],
+    table: &Table,
+    ranks: &PerEntry,
     base: usize,
     entry: usize,
 ) -> usize
@@ -95,8 +97,8 @@ fn place(
 fn data(
     out: &mut [u8],
     at: usize,
-    table: &[u8; 2048],
-    ranks: &[u16; 2048],
+    table: &Table,
+    ranks: &PerEntry,
     base: usize,
     row: usize,
     parity: usize,
@@ -118,8 +120,8 @@ fn data(
 fn line(
     out: &mut [u8],
     at: usize,
-    table: &[u8; 2048],
-    ranks: &[u16; 2048],
+    table: &Table,
+    ranks: &PerEntry,
     k: usize,
     b: usize,
     r: usize,

@@ -10,6 +10,9 @@ use crate::stripe;
 use design::Shelf;
 use placement::fast;
 
+// The bytes of the largest unit.
+const UNIT_MOST: usize = 1 << Shelf::U_MOST;
+
 // How many stripes have an exclusive-or that is not all zeros.
 pub fn count_wrong(shelf: Shelf, image: &[u8]) -> usize
     requires { ⌜ Held shelf (now image) ⌝ }
@@ -19,7 +22,7 @@ pub fn count_wrong(shelf: Shelf, image: &[u8]) -> usize
     let ranks = sizes::ranks_of(shelf);
     let shape = sizes::shape_of(shelf);
     let size = shape.size;
-    let mut sum = [0u8; 4096];
+    let mut sum = [0u8; UNIT_MOST];
     let mut wrong = 0;
     for s in 0..fast::stripes(shelf) {
         stripe::gather(&mut sum[..size], image, &table, &ranks, shape, s, shelf.k);

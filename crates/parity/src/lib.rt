@@ -42,7 +42,7 @@ pub struct Losing {
 pub struct Rebuilding {
     pub verdict: Verdict,
     pub shelf: Shelf,
-    pub counts: [usize; 64],
+    pub counts: [usize; Shelf::V_MOST],
 }
 
 // The number of wrong stripes.
@@ -139,7 +139,7 @@ pub fn rebuild(shelf: Shelf, image: &mut [u8]) -> Rebuilding
         return Rebuilding {
             verdict,
             shelf,
-            counts: [0; 64],
+            counts: [0; Shelf::V_MOST],
         };
     };
     restoring::restore_disk(shelf, image);

@@ -54,11 +54,11 @@ pub fn restore_disk(shelf: Shelf, image: &mut [u8])
 }
 
 // The units read from each disk: lambda for each copy, of which there are T·k, from every other disk below v.
-pub fn counts(shelf: Shelf) -> [usize; 64]
+pub fn counts(shelf: Shelf) -> [usize; Shelf::V_MOST]
     requires { ⌜ isShelf shelf ≡ true ⌝ }
     ensures { λ r. ⌜ r ≡ listFrom 0 64 (readFrom shelf (shelf .loss)) ⌝ }
 {
-    let mut counts = [0; 64];
+    let mut counts = [0; Shelf::V_MOST];
     let loss = shelf.loss;
     let Loss::Disk(lost) = loss else {
         return counts;

@@ -9,6 +9,7 @@ ghost use Rattle.parity.specs.inner.Shapes.{shapeIn};
 use crate::Shape;
 use design::Shelf;
 use placement::fast;
+use placement::fast::PerEntry;
 
 // U.
 pub fn unit_size(shelf: Shelf) -> usize
@@ -40,7 +41,7 @@ pub fn shape_of(shelf: Shelf) -> Shape
 }
 
 // For each entry of the table, how many before it have the same disk.
-pub fn ranks_of(shelf: Shelf) -> [u16; 2048]
+pub fn ranks_of(shelf: Shelf) -> PerEntry
     requires { ⌜ isShelf shelf ≡ true ⌝ }
     ensures { λ r. ⌜ Ranked (shelf .table) (shelf .b * shelf .k) r ⌝ }
 {

@@ -10,6 +10,8 @@ ghost use Rattle.parity.specs.inner.Sums.{Placed, numberBy, sumWith};
 use crate::Shape;
 use crate::bytes;
 use crate::units;
+use design::Table;
+use placement::fast::PerEntry;
 
 // The first index beside i, and the second.
 fn first_beside(i: usize) -> usize
@@ -28,8 +30,8 @@ fn second_beside(i: usize) -> usize
 // there are two; how many units of the stripe are then done.
 fn begin(
     image: &mut [u8],
-    table: &[u8; 2048],
-    ranks: &[u16; 2048],
+    table: &Table,
+    ranks: &PerEntry,
     shape: Shape,
     s: usize,
     i: usize,
@@ -52,14 +54,7 @@ fn begin(
 }
 
 // Unit i of stripe s becomes the exclusive-or of the others.
-pub fn restore(
-    image: &mut [u8],
-    table: &[u8; 2048],
-    ranks: &[u16; 2048],
-    shape: Shape,
-    s: usize,
-    i: usize,
-)
+pub fn restore(image: &mut [u8], table: &Table, ranks: &PerEntry, shape: Shape, s: usize, i: usize)
     requires { ⌜ Placed (now table) (now ranks) shape s (length (now image)) ⌝ }
     requires { ⌜ i < shape .k ⌝ }
     ensures { λ _. ⌜ now (image .exit) ≡ putUnit (shape .size) (now (image .entry)) (numberBy (now (table .entry)) (now (ranks .entry)) shape s i) (sumWith (now (table .entry)) (now (ranks .entry)) shape (now (image .entry)) s i (zeros (shape .size)) (shape .k)) ⌝ }
@@ -80,8 +75,8 @@ pub fn restore(
 pub fn gather(
     unit: &mut [u8],
     image: &[u8],
-    table: &[u8; 2048],
-    ranks: &[u16; 2048],
+    table: &Table,
+    ranks: &PerEntry,
     shape: Shape,
     s: usize,
     i: usize,
@@ -103,8 +98,8 @@ pub fn gather(
 // For a lost data unit j, the parity becomes the exclusive-or of the data with the lent unit for it.
 pub fn reparity(
     image: &mut [u8],
-    table: &[u8; 2048],
-    ranks: &[u16; 2048],
+    table: &Table,
+    ranks: &PerEntry,
     shape: Shape,
     s: usize,
     j: usize,
@@ -140,7 +135,7 @@ pub fn seal(image: &mut [u8], n: usize, buffer: &[u8], size: usize, count: usize
     }
 }
 
-pub fn number(table: &[u8; 2048], ranks: &[u16; 2048], shape: Shape, s: usize, i: usize) -> usize
+pub fn number(table: &Table, ranks: &PerEntry, shape: Shape, s: usize, i: usize) -> usize
     requires { ⌜ Reckoned (shape .k) (shape .b) (shape .r) (shape .depth) s i ⌝ }
     ensures { λ n. ⌜ n ≡ numberBy (now (table .entry)) (now (ranks .entry)) shape s i ⌝ }
 {

@@ -5,6 +5,8 @@ ghost use lib.ListN.{length};
 ghost use Rattle.parity.specs.Units.{zeros, unitAt, xorU};
 ghost use Rattle.parity.specs.inner.Stores.{putUnit, numberIn, Reckoned};
 use crate::bytes;
+use design::Table;
+use placement::fast::PerEntry;
 
 pub fn clear_unit(image: &mut [u8], n: usize, size: usize)
     requires { ⌜ n * size + size ≤ length (now image) ⌝ }
@@ -90,8 +92,8 @@ pub fn mix_both(image: &mut [u8], to: usize, from: usize, unit: &[u8])
 
 // The number of unit i of stripe s: data i below k - 1, the parity at k - 1.
 pub fn number(
-    table: &[u8; 2048],
-    ranks: &[u16; 2048],
+    table: &Table,
+    ranks: &PerEntry,
     k: usize,
     b: usize,
     r: usize,

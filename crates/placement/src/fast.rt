@@ -12,6 +12,7 @@ use crate::LookUp;
 use crate::Spot;
 use crate::seek;
 use design::Shelf;
+use design::Table;
 
 // The split of a stripe, and the parity's position in it.
 pub struct Split {
@@ -25,6 +26,9 @@ pub struct Place {
     pub disk: usize,
     pub offset: usize,
 }
+
+// A number for each entry of the table.
+pub type PerEntry = [u16; Shelf::PLACES_MOST];
 
 // S.
 pub fn stripes(shelf: Shelf) -> usize
@@ -132,13 +136,13 @@ pub fn stands_at(shelf: Shelf, disk: usize, offset: usize) -> LookUp
 
 // For each of the first n entries of the table, how many entries before it have the same disk: as no tuple has a disk
 // twice, the number of tuples before its own that hold its disk. One pass for a whole rebuild or print.
-pub fn ranks(table: &[u8; 2048], n: usize) -> [u16; 2048]
+pub fn ranks(table: &Table, n: usize) -> PerEntry
     requires { ⌜ (n ≤ 2048) ⌝ }
     requires { ⌜ ((i : ℕ) → i < n → getD (now table) i 0 < 64) ⌝ }
     ensures { λ r. ⌜ ((i : ℕ) → i < n → getD r i 0 ≡ count (λ j. eqb (getD (now (table .entry)) j 0) (getD (now (table .entry)) i 0)) i) ⌝ }
 {
-    let mut counts = [0u16; 64];
-    let mut ranks = [0u16; 2048];
+    let mut counts = [0u16; Shelf::V_MOST];
+    let mut ranks = [0u16; Shelf::PLACES_MOST];
     for i in 0..n {
         let disk = table[i] as usize;
         ranks[i] = counts[disk];
@@ -149,11 +153,11 @@ pub fn ranks(table: &[u8; 2048], n: usize) -> [u16; 2048]
 
 // The entries of the first n that are disk d, in their order: entry m is the one that has m such before it. One pass for a
 // whole rebuild.
-pub fn entries(table: &[u8; 2048], n: usize, d: u8) -> [u16; 2048]
+pub fn entries(table: &Table, n: usize, d: u8) -> PerEntry
     requires { ⌜ n ≤ 2048 ⌝ }
     ensures { λ r. ⌜ ((m : ℕ) → m < count (λ i. eqb (getD (now (table .entry)) i 0) d) n → getD r m 0 ≡ nth (λ i. eqb (getD (now (table .entry)) i 0) d) n m) ⌝ }
 {
-    let mut entries = [0u16; 2048];
+    let mut entries = [0u16; Shelf::PLACES_MOST];
     let mut found: usize = 0;
     for i in 0..n {
         if table[i] == d {

@@ -87,8 +87,8 @@ fn lose_line(held: Held, line: &[u8]) -> Step {
     Step::done(held.with_shelf(losing.shelf))
 }
 
-fn counts(counts: &[usize; 64]) {
-    for e in 0..64 {
+fn counts(counts: &[usize; Shelf::V_MOST]) {
+    for e in 0..Shelf::V_MOST {
         print::number(counts[e]);
     }
 }
