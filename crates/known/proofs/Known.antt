@@ -1,6 +1,6 @@
 -- Every case of the table has its known answer: one statement, computed from the definitions. That a sheet's shelf passes rule 10
 -- is the theorem on accepted sheets. Assumes nothing.
-use mathlib.Core.Path.{_≡_, refl, ap}
+use mathlib.Core.Path.{_≡_, refl, ap, ap₂, _∙_}
 use mathlib.Core.Bool.{_&&_}
 use mathlib.Core.List.{List, [], _∷_, map}
 use Prim.Native.Nat.{ℕ}
@@ -18,7 +18,7 @@ use Rattle.design.proofs.Refused.{accepted-shelf}
 use Rattle.design.proofs.RoundTrip.{opened-is-shelf}
 use Rattle.placement.specs.Layout.{layoutIn, addresses, offsets, offsetOf, tupleAt, stripeAt, positionAt}
 use Rattle.placement.specs.Placed.{rangeRule, spotOf, placeRules, placedBy, placed, standsAt, lookUpRules, lookedUpBy, lookedUp}
-use Rattle.known.specs.Table.{Case, sheetA, sheetA₂, sheetB, twoPairs, onePair, ofPlacing, ofLookUp, ofVerdict, answer, address, place, sheet, table}
+use Rattle.known.specs.Table.{Case, Answer, sheetA, sheetA₂, sheetB, twoPairs, onePair, ofPlacing, ofLookUp, ofVerdict, answer, address, place, sheet, table}
 
 -- ---- an accepted sheet answers by its own layout
 
@@ -46,25 +46,28 @@ verdicts = refl
 abbrev nthVerdict : ℕ → List Verdict → Verdict
 nthVerdict i l = getD l i Accepted
 
+acceptedA : opened sheetA .verdict ≡ Accepted
+acceptedA = ap (nthVerdict 0) verdicts
+
 -- ---- the table
+
+row : {x y : Answer} {l m : List Answer} → x ≡ y → l ≡ m → x ∷ l ≡ y ∷ m
+row p q = ap₂ (λ (x : Answer) (l : List Answer). x ∷ l) p q
 
 pub known : map (λ (c : Case). answer (c .question)) table ≡ map (λ (c : Case). c .known) table
 unfolding table number field bitAt count nth listFrom firstBroken has holds before shared tableOf shelfOf offsetOf tupleAt stripeAt positionAt spotOf placedBy standsAt lookedUpBy sheetA sheetA₂ sheetB
 known =
-    rw (
-      placing sheetA (ap (nthVerdict 0) verdicts) 0,
-      placing sheetA (ap (nthVerdict 0) verdicts) 3,
-      placing sheetA (ap (nthVerdict 0) verdicts) 7,
-      placing sheetA (ap (nthVerdict 0) verdicts) 9,
-      placing sheetA (ap (nthVerdict 0) verdicts) 15,
-      placing sheetA (ap (nthVerdict 0) verdicts) 16,
-      placing sheetA (ap (nthVerdict 0) verdicts) 23,
-      placing sheetA (ap (nthVerdict 0) verdicts) 24,
-      placing sheetA₂ (ap (nthVerdict 1) verdicts) 24,
-      lookingUp sheetA (ap (nthVerdict 0) verdicts) 3 2,
-      placing sheetB (ap (nthVerdict 2) verdicts) 1,
-      judging twoPairs,
-      judging onePair,
-      ap (nthVerdict 3) verdicts,
-      ap (nthVerdict 4) verdicts,
-    )
+    row (placing sheetA acceptedA 0)
+    (row (placing sheetA acceptedA 3)
+    (row (placing sheetA acceptedA 7)
+    (row (placing sheetA acceptedA 9)
+    (row (placing sheetA acceptedA 15)
+    (row (placing sheetA acceptedA 16)
+    (row (placing sheetA acceptedA 23)
+    (row (placing sheetA acceptedA 24)
+    (row (placing sheetA₂ (ap (nthVerdict 1) verdicts) 24)
+    (row (lookingUp sheetA acceptedA 3 2)
+    (row (placing sheetB (ap (nthVerdict 2) verdicts) 1)
+    (row (judging twoPairs ∙ ap ofVerdict (ap (nthVerdict 3) verdicts))
+    (row (judging onePair ∙ ap ofVerdict (ap (nthVerdict 4) verdicts))
+    refl))))))))))))
