@@ -86,11 +86,10 @@ module _ (p : ℕ) where
 
 -- ---- of a layout
 
--- position x of stripe s is that of data j and of no other
+-- position x of stripe s is that of data j
 pub record DataAt (L : Layout) (s x j : ℕ) : Type 0 where
   pub below : j < L .k - 1
   pub stands : positionOf L s j ≡ x
-  pub only : (i : ℕ) → positionOf L s i ≡ x → i ≡ j
 
 module _ (L : Layout) (E : Even L) (s : ℕ) where
   pub position-ne : (j : ℕ) → positionOf L s j ≢ parityOf L s
@@ -110,5 +109,4 @@ module _ (L : Layout) (E : Even L) (s : ℕ) where
   data-at x h ne = record {
     below = under-lt (parityOf L s) x ne (L .k - 1) (omega (arith, parity-lt)) (omega arith);
     stands = over-under (parityOf L s) x ne;
-    only = λ i e. position-inj i (under (parityOf L s) x) (e ∙ sym (over-under (parityOf L s) x ne));
   }
