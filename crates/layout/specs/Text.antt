@@ -71,7 +71,7 @@ placeWord L s p = spaced (placeText (placeOf L s p))
 
 -- a stripe's number, the parity place, the data places in address order
 unfoldable pub stripeLine : Layout → ℕ → List ℕ
-stripeLine L s = decimal s ++ placeWord L s (parityOf L s) ++ joined (L .k - 1) (λ j. placeWord L s (positionOf L s j)) ++ lineEnd ∷ []
+stripeLine L s = decimal s ++ placeWord L s (parityOf L s) ++ joined (L .design .k - 1) (λ j. placeWord L s (positionOf L s j)) ++ lineEnd ∷ []
 
 -- the lines of n stripes from `first` on
 unfoldable pub linesFrom : Layout → ℕ → ℕ → List ℕ

@@ -13,7 +13,7 @@ use Rattle.design.specs.Count.{count, nth}
 use Rattle.design.specs.Shelf.{isShelf}
 use Rattle.design.proofs.Counting.{fails, count-none}
 use Rattle.design.proofs.Sums.{count-unique}
-use Rattle.placement.specs.Layout.{layoutIn, tuples, stripes, tupleOf, diskOf}
+use Rattle.placement.specs.Layout.{layoutIn, stripes, tupleOf, diskOf}
 use Rattle.placement.proofs.Even.{even-shelf}
 use Rattle.placement.proofs.Held.{held-at}
 use Rattle.placement.proofs.Row.{disk-lt}
@@ -29,7 +29,7 @@ module _ (h : Shelf) (ok : isShelf h ≡ true) where
   -- no stripe has a unit on a disk that the shelf does not have
   none-on : (s e : ℕ) → h .v ≤ e → onDisk h s e ≡ false
   none-on s e l = fails (onDisk h s e) (λ t.
-      let at = held-at (tuples (layoutIn h)) (tupleOf (layoutIn h) s) e t in
+      let at = held-at (layoutIn h .design) (tupleOf (layoutIn h) s) e t in
       let p : ℕ = nth (λ p. eqb (diskOf (layoutIn h) s p) e) (h .k) 0 in
       omega (arith, disk-lt (layoutIn h) (even-shelf h ok) s p (at .below), eqb-true (diskOf (layoutIn h) s p) e (at .passes)))
 

@@ -44,6 +44,7 @@ pub mod PromisedMemory
 pub mod Writing
 pub mod Summing
 pub mod StripeSums
+pub mod ByBlocks
 pub mod Places
 pub mod Addressed
 pub mod ReadCounts

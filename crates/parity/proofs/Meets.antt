@@ -10,7 +10,7 @@ use Rattle.design.specs.declared.Shelf.{Shelf}
 use Rattle.design.specs.Count.{nth}
 use Rattle.design.specs.Shelf.{lossBelow, isShelf}
 use Rattle.design.proofs.ShelfTests.{shelf-parts}
-use Rattle.placement.specs.Layout.{layoutIn, tuples, stripes, tupleOf, diskOf}
+use Rattle.placement.specs.Layout.{layoutIn, stripes, tupleOf, diskOf}
 use Rattle.placement.proofs.Held.{holds-disk, held-at}
 use Rattle.parity.specs.Stripe.{unitIn, diskAt, present, positionIn}
 use Rattle.parity.specs.Calls.{onDisk}
@@ -35,13 +35,13 @@ module _ (h : Shelf) (ok : isShelf h ≡ true) where
     pub unit-on-disk : (i : ℕ) → i < h .k → onDisk h s (diskAt h (unitIn h s i)) ≡ true
     unit-on-disk i hi =
         rw (disk-home h ok s i hs hi)
-        (holds-disk (tuples (layoutIn h)) (tupleOf (layoutIn h) s) (positionIn h s i) (position-in-lt h ok s i hi))
+        (holds-disk (layoutIn h .design) (tupleOf (layoutIn h) s) (positionIn h s i) (position-in-lt h ok s i hi))
 
     -- the unit of a stripe that a disk has
     pub on-disk-unit : (d : ℕ) → onDisk h s d ≡ true → (i : ℕ) × UnitOn h s d i
     on-disk-unit d e =
         let p : ℕ = nth (λ p. eqb (diskOf (layoutIn h) s p) d) (h .k) 0 in
-        let at = held-at (tuples (layoutIn h)) (tupleOf (layoutIn h) s) d e in
+        let at = held-at (layoutIn h .design) (tupleOf (layoutIn h) s) d e in
         let i : ℕ = indexOf h s p in
         let hi : i < h .k = index-lt h ok s p (at .below) in (
           i,

@@ -30,6 +30,7 @@ module _ (h : Shelf) (ok : isShelf h ≡ true) (ranks : List ℕ) (R : Ranked (h
       let l = shelf-parts h ok .limits in
       record {
         two = l .k-least;
+        most = omega (arith, l .k-most);
         some = l .b-least;
         entries = l .places;
         often = often-most h ok;

@@ -16,7 +16,7 @@ use Rattle.design.specs.Count.{count, listFrom}
 use Rattle.design.specs.Refusals.{Rule, firstBroken}
 use Rattle.design.specs.Tuples.{holds}
 use Rattle.design.specs.Shelf.{shelfRule}
-use Rattle.placement.specs.Layout.{layoutIn, tuples, stripes, addresses, stripeOf, jOf, tupleOf}
+use Rattle.placement.specs.Layout.{layoutIn, stripes, addresses, stripeOf, jOf, tupleOf}
 use Rattle.parity.specs.declared.Cost.{Cost}
 use Rattle.parity.specs.declared.Losing.{Losing}
 use Rattle.parity.specs.declared.Rebuilding.{Rebuilding}
@@ -178,7 +178,7 @@ rebuiltImage h image = patch h image (λ n. not (present h n)) (λ n. others h i
 
 -- stripe s has a unit on disk d
 abbrev pub onDisk : Shelf → ℕ → ℕ → Bool
-onDisk h s d = holds (tuples (layoutIn h)) (tupleOf (layoutIn h) s) d
+onDisk h s d = holds (layoutIn h .design) (tupleOf (layoutIn h) s) d
 
 -- the units read from disk e: the stripes that it shares with the lost disk
 unfoldable pub readFrom : Shelf → Loss → ℕ → ℕ

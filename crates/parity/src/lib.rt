@@ -5,6 +5,7 @@ use design::Loss;
 use design::Shelf;
 use design::Verdict;
 
+mod blocks;
 mod bytes;
 mod checking;
 mod large;

@@ -6,10 +6,13 @@ ghost use lib.Dec.{ltb, eqb};
 ghost use lib.ListN.{length};
 ghost use Rattle.parity.specs.Units.{zeros, unitAt, xorSum};
 ghost use Rattle.parity.specs.inner.Stores.{putUnit, Reckoned};
+ghost use Rattle.parity.specs.inner.Blocks.{Listed};
 ghost use Rattle.parity.specs.inner.Sums.{Placed, numberBy, sumWith};
 use crate::Shape;
+use crate::blocks;
 use crate::bytes;
 use crate::units;
+use design::Shelf;
 use design::Table;
 use placement::fast::PerEntry;
 
@@ -53,8 +56,45 @@ fn begin(
     second + 1
 }
 
-// Unit i of stripe s becomes the exclusive-or of the others.
+// The numbers of the units of stripe s.
+fn numbers(table: &Table, ranks: &PerEntry, shape: Shape, s: usize) -> blocks::Numbers
+    requires { ⌜ Reckoned (shape .k) (shape .b) (shape .r) (shape .depth) s 0 ⌝ }
+    requires { ⌜ shape .k ≤ 16 ⌝ }
+    ensures { λ r. ⌜ Listed r (numberBy (now (table .entry)) (now (ranks .entry)) shape s) (shape .k) ⌝ }
+{
+    let k = shape.k;
+    let mut numbers = [0; Shelf::K_MOST];
+    for j in 0..k {
+        numbers[j] = number(table, ranks, shape, s, j);
+    }
+    numbers
+}
+
+// Unit i of stripe s becomes the exclusive-or of the others: of three or more by blocks, where it has whole ones.
 pub fn restore(image: &mut [u8], table: &Table, ranks: &PerEntry, shape: Shape, s: usize, i: usize)
+    requires { ⌜ Placed (now table) (now ranks) shape s (length (now image)) ⌝ }
+    requires { ⌜ i < shape .k ⌝ }
+    ensures { λ _. ⌜ now (image .exit) ≡ putUnit (shape .size) (now (image .entry)) (numberBy (now (table .entry)) (now (ranks .entry)) shape s i) (sumWith (now (table .entry)) (now (ranks .entry)) shape (now (image .entry)) s i (zeros (shape .size)) (shape .k)) ⌝ }
+{
+    let k = shape.k;
+    let size = shape.size;
+    if 3 < k && size % blocks::BLOCK == 0 {
+        let numbers = numbers(table, ranks, shape, s);
+        blocks::restore(image, &numbers, k, i, size / blocks::BLOCK);
+    } else {
+        restore_whole(image, table, ranks, shape, s, i);
+    }
+}
+
+// The same, unit after unit.
+fn restore_whole(
+    image: &mut [u8],
+    table: &Table,
+    ranks: &PerEntry,
+    shape: Shape,
+    s: usize,
+    i: usize,
+)
     requires { ⌜ Placed (now table) (now ranks) shape s (length (now image)) ⌝ }
     requires { ⌜ i < shape .k ⌝ }
     ensures { λ _. ⌜ now (image .exit) ≡ putUnit (shape .size) (now (image .entry)) (numberBy (now (table .entry)) (now (ranks .entry)) shape s i) (sumWith (now (table .entry)) (now (ranks .entry)) shape (now (image .entry)) s i (zeros (shape .size)) (shape .k)) ⌝ }

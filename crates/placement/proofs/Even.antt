@@ -9,18 +9,18 @@ use Rattle.design.specs.Tuples.{Different, holds, before}
 use Rattle.design.specs.Shelf.{designIn, isShelf}
 use Rattle.design.proofs.Counting.{count-lt}
 use Rattle.design.proofs.ShelfTests.{shelf-parts}
-use Rattle.placement.specs.Layout.{Layout, tuples, layoutIn}
+use Rattle.placement.specs.Layout.{Layout, layoutIn}
 use Rattle.placement.proofs.Held.{holds-disk}
 
 -- some tuples of at least two different disks below v, and each disk in r of them
 pub record Even (L : Layout) : Type 0 where
-  pub k-least : 2 ≤ L .k
-  pub b-pos : 0 < L .b
+  pub k-least : 2 ≤ L .design .k
+  pub b-pos : 0 < L .design .b
   pub r-pos : 0 < L .r
   pub T-pos : 0 < L .T
-  pub range : (q p : ℕ) → q < L .b → p < L .k → L .disk q p < L .v
-  pub different : (q : ℕ) → q < L .b → Different (L .disk q) (L .k)
-  pub often : (d : ℕ) → d < L .v → before (tuples L) (L .b) d ≡ L .r
+  pub range : (q p : ℕ) → q < L .design .b → p < L .design .k → L .design .disk q p < L .design .v
+  pub different : (q : ℕ) → q < L .design .b → Different (L .design .disk q) (L .design .k)
+  pub often : (d : ℕ) → d < L .design .v → before (L .design) (L .design .b) d ≡ L .r
 
 pub even-shelf : (h : Shelf) → isShelf h ≡ true → Even (layoutIn h)
 unfolding before

@@ -8,11 +8,11 @@ use Rattle.placement.proofs.Even.{Even}
 
 -- the same stripe of the next full table
 abbrev pub nextTable : Layout → ℕ → ℕ
-nextTable L s = s + L .b * L .k
+nextTable L s = s + L .design .b * L .design .k
 
 module _ (L : Layout) (E : Even L) (s : ℕ) where
   next-w : wOf L (nextTable L s) ≡ wOf L s
-  next-w = add-mod-right s (L .b * L .k)
+  next-w = add-mod-right s (L .design .b * L .design .k)
 
   next-table : fullTableOf L (nextTable L s) ≡ fullTableOf L s + 1
   next-table = add-div-right s (mul-pos (E .b-pos) (omega (arith, E .k-least)))
@@ -21,11 +21,11 @@ module _ (L : Layout) (E : Even L) (s : ℕ) where
   next-parity = rw next-w
 
   pub next-disk : (p : ℕ) → diskOf L (nextTable L s) p ≡ diskOf L s p
-  next-disk p = ap (λ (w : ℕ). L .disk (w % L .b) p) next-w
+  next-disk p = ap (λ (w : ℕ). L .design .disk (w % L .design .b) p) next-w
 
-  pub next-offset : (p : ℕ) → offsetOf L (nextTable L s) p ≡ offsetOf L s p + L .r * L .k
+  pub next-offset : (p : ℕ) → offsetOf L (nextTable L s) p ≡ offsetOf L s p + L .r * L .design .k
   unfolding offsetOf
   next-offset p = rw (next-disk p, next-w, next-table) (omega arith)
 
-  pub rightmost : copyOf L s ≡ 0 → parityOf L s ≡ L .k - 1
+  pub rightmost : copyOf L s ≡ 0 → parityOf L s ≡ L .design .k - 1
   rightmost e = rw e (omega arith)

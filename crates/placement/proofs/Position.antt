@@ -88,25 +88,25 @@ module _ (p : ℕ) where
 
 -- position x of stripe s is that of data j
 pub record DataAt (L : Layout) (s x j : ℕ) : Type 0 where
-  pub below : j < L .k - 1
+  pub below : j < L .design .k - 1
   pub stands : positionOf L s j ≡ x
 
 module _ (L : Layout) (E : Even L) (s : ℕ) where
   pub position-ne : (j : ℕ) → positionOf L s j ≢ parityOf L s
   position-ne = over-ne (parityOf L s)
 
-  pub parity-lt : parityOf L s < L .k
+  pub parity-lt : parityOf L s < L .design .k
   parity-lt = omega (arith, E .k-least, copy-lt L E s)
 
-  pub position-lt : (j : ℕ) → j < L .k - 1 → positionOf L s j < L .k
-  position-lt j h = omega (arith, over-lt (parityOf L s) j (L .k - 1) h)
+  pub position-lt : (j : ℕ) → j < L .design .k - 1 → positionOf L s j < L .design .k
+  position-lt j h = omega (arith, over-lt (parityOf L s) j (L .design .k - 1) h)
 
   pub position-inj : (i j : ℕ) → positionOf L s i ≡ positionOf L s j → i ≡ j
   position-inj i j e = sym (under-over (parityOf L s) i) ∙ ap (under (parityOf L s)) e ∙ under-over (parityOf L s) j
 
   -- every position but the parity's is that of one data unit
-  pub data-at : (x : ℕ) → x < L .k → x ≢ parityOf L s → DataAt L s x (under (parityOf L s) x)
+  pub data-at : (x : ℕ) → x < L .design .k → x ≢ parityOf L s → DataAt L s x (under (parityOf L s) x)
   data-at x h ne = record {
-    below = under-lt (parityOf L s) x ne (L .k - 1) (omega (arith, parity-lt)) (omega arith);
+    below = under-lt (parityOf L s) x ne (L .design .k - 1) (omega (arith, parity-lt)) (omega arith);
     stands = over-under (parityOf L s) x ne;
   }

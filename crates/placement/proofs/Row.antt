@@ -7,49 +7,49 @@ use native.Mathlib.Omega.{arith}
 use lib.Arith.{digits-lt, digits-div, digits-mod, mod-mul}
 use Rattle.design.specs.Tuples.{holds, before}
 use Rattle.design.proofs.Counting.{count-lt}
-use Rattle.placement.specs.Layout.{Layout, tuples, stripes, offsets, fullTableOf, wOf, copyOf, tupleOf, diskOf, offsetOf}
+use Rattle.placement.specs.Layout.{Layout, stripes, offsets, fullTableOf, wOf, copyOf, tupleOf, diskOf, offsetOf}
 use Rattle.placement.proofs.Held.{holds-disk}
 use Rattle.placement.proofs.Even.{Even}
 
 module _ (L : Layout) (E : Even L) where
-  k-pos : 0 < L .k
+  k-pos : 0 < L .design .k
   k-pos = omega (arith, E .k-least)
 
-  pub tuple-lt : (s : ℕ) → tupleOf L s < L .b
+  pub tuple-lt : (s : ℕ) → tupleOf L s < L .design .b
   tuple-lt s = mod-lt (wOf L s) (E .b-pos)
 
-  within : (s : ℕ) → wOf L s ≡ s / L .b % L .k * L .b + s % L .b
-  within s = ap (λ (n : ℕ). s % n) (mul-comm (L .b) (L .k)) ∙ mod-mul s k-pos (E .b-pos)
+  within : (s : ℕ) → wOf L s ≡ s / L .design .b % L .design .k * L .design .b + s % L .design .b
+  within s = ap (λ (n : ℕ). s % n) (mul-comm (L .design .b) (L .design .k)) ∙ mod-mul s k-pos (E .b-pos)
 
-  pub tuple-row : (s : ℕ) → tupleOf L s ≡ s % L .b
-  tuple-row s = rw within (digits-mod (s / L .b % L .k) (mod-lt s (E .b-pos)))
+  pub tuple-row : (s : ℕ) → tupleOf L s ≡ s % L .design .b
+  tuple-row s = rw within (digits-mod (s / L .design .b % L .design .k) (mod-lt s (E .b-pos)))
 
-  pub copy-row : (s : ℕ) → copyOf L s ≡ s / L .b % L .k
-  copy-row s = rw within (digits-div (s / L .b % L .k) (mod-lt s (E .b-pos)))
+  pub copy-row : (s : ℕ) → copyOf L s ≡ s / L .design .b % L .design .k
+  copy-row s = rw within (digits-div (s / L .design .b % L .design .k) (mod-lt s (E .b-pos)))
 
-  pub copy-lt : (s : ℕ) → copyOf L s < L .k
-  copy-lt s = rw copy-row (mod-lt (s / L .b) k-pos)
+  pub copy-lt : (s : ℕ) → copyOf L s < L .design .k
+  copy-lt s = rw copy-row (mod-lt (s / L .design .b) k-pos)
 
-  pub row : (s : ℕ) → fullTableOf L s * L .k + copyOf L s ≡ s / L .b
-  row s = rw (copy-row s, ← div-div-eq-div-mul s (L .b) (L .k)) (div-add-mod' (s / L .b) (L .k))
+  pub row : (s : ℕ) → fullTableOf L s * L .design .k + copyOf L s ≡ s / L .design .b
+  row s = rw (copy-row s, ← div-div-eq-div-mul s (L .design .b) (L .design .k)) (div-add-mod' (s / L .design .b) (L .design .k))
 
-  pub offset-row : (s p : ℕ) → offsetOf L s p ≡ s / L .b * L .r + before (tuples L) (tupleOf L s) (diskOf L s p)
+  pub offset-row : (s p : ℕ) → offsetOf L s p ≡ s / L .design .b * L .r + before (L .design) (tupleOf L s) (diskOf L s p)
   unfolding offsetOf
   offset-row s p = omega (arith, ap (λ (n : ℕ). n * L .r) (row s))
 
-  pub rank-lt : (q p : ℕ) → q < L .b → p < L .k → before (tuples L) q (L .disk q p) < L .r
+  pub rank-lt : (q p : ℕ) → q < L .design .b → p < L .design .k → before (L .design) q (L .design .disk q p) < L .r
   unfolding before
   rank-lt q p hq hp =
-      let d : ℕ = L .disk q p in
-      omega (arith, count-lt (λ q′. holds (tuples L) q′ d) q (L .b) hq (holds-disk (tuples L) q p hp), E .often d (E .range q p hq hp))
+      let d : ℕ = L .design .disk q p in
+      omega (arith, count-lt (λ q′. holds (L .design) q′ d) q (L .design .b) hq (holds-disk (L .design) q p hp), E .often d (E .range q p hq hp))
 
-  pub before-lt : (s p : ℕ) → p < L .k → before (tuples L) (tupleOf L s) (diskOf L s p) < L .r
+  pub before-lt : (s p : ℕ) → p < L .design .k → before (L .design) (tupleOf L s) (diskOf L s p) < L .r
   before-lt s p hp = rank-lt (tupleOf L s) p (tuple-lt s) hp
 
-  pub disk-lt : (s p : ℕ) → p < L .k → diskOf L s p < L .v
+  pub disk-lt : (s p : ℕ) → p < L .design .k → diskOf L s p < L .design .v
   disk-lt s p hp = E .range (tupleOf L s) p (tuple-lt s) hp
 
-  pub offset-lt : (s p : ℕ) → s < stripes L → p < L .k → offsetOf L s p < offsets L
+  pub offset-lt : (s p : ℕ) → s < stripes L → p < L .design .k → offsetOf L s p < offsets L
   offset-lt s p hs hp =
-      let l : s < L .T * L .k * L .b = omega arith in
+      let l : s < L .T * L .design .k * L .design .b = omega arith in
       omega (arith, offset-row s p, digits-lt (div-lt-iff-lt-mul (E .b-pos) .1 l) (before-lt s p hp))

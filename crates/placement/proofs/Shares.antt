@@ -15,7 +15,7 @@ use Rattle.design.specs.Shelf.{designIn, isShelf}
 use Rattle.design.proofs.Counting.{decided, count-ext}
 use Rattle.design.proofs.Design.{shared-sym}
 use Rattle.design.proofs.ShelfTests.{shelf-parts}
-use Rattle.placement.specs.Layout.{Layout, tuples, layoutIn, stripes, offsets, stripeOf, tupleOf, diskOf, offsetOf, tupleAt, stripeAt}
+use Rattle.placement.specs.Layout.{Layout, layoutIn, stripes, offsets, stripeOf, tupleOf, diskOf, offsetOf, tupleAt, stripeAt}
 use Rattle.placement.proofs.Even.{Even, even-shelf}
 use Rattle.placement.proofs.Row.{tuple-row, offset-row, disk-lt}
 use Rattle.placement.proofs.Undo.{tuple-there}
@@ -23,59 +23,59 @@ use Rattle.placement.proofs.Rows.{count-digit, count-digits, count-nth}
 
 -- stripe s holds disk d
 abbrev pub stripeHolds : Layout → ℕ → ℕ → Bool
-stripeHolds L s d = holds (tuples L) (tupleOf L s) d
+stripeHolds L s d = holds (L .design) (tupleOf L s) d
 
 module _ (L : Layout) (E : Even L) where
   -- the addresses of stripe s follow one another
-  pub stripe-exactly : (a s : ℕ) → (stripeOf L a ≡ s) ↔ ((s * (L .k - 1) ≤ a) × (a < (s + 1) * (L .k - 1)))
+  pub stripe-exactly : (a s : ℕ) → (stripeOf L a ≡ s) ↔ ((s * (L .design .k - 1) ≤ a) × (a < (s + 1) * (L .design .k - 1)))
   stripe-exactly a s =
-      let l : 0 < L .k - 1 = omega (arith, E .k-least) in
-      (λ e. rw (← e) (div-mul-le-self a (L .k - 1), omega (arith, lt-div-mul-add {a = a} l)), λ h. div-eq-of-lt-le (L .k - 1) (h .0) (h .1))
+      let l : 0 < L .design .k - 1 = omega (arith, E .k-least) in
+      (λ e. rw (← e) (div-mul-le-self a (L .design .k - 1), omega (arith, lt-div-mul-add {a = a} l)), λ h. div-eq-of-lt-le (L .design .k - 1) (h .0) (h .1))
 
   -- a test of the tuple, over all stripes
-  tuple-count : (f : ℕ → Bool) → count (λ s. f (tupleOf L s)) (stripes L) ≡ L .T * L .k * count f (L .b)
+  tuple-count : (f : ℕ → Bool) → count (λ s. f (tupleOf L s)) (stripes L) ≡ L .T * L .design .k * count f (L .design .b)
   tuple-count f =
-      count-ext _ (λ s. f (s % L .b)) (stripes L) (λ s l. ap f (tuple-row L E s))
-      ∙ ap (count (λ s. f (s % L .b))) (omega arith)
-      ∙ count-digit f (L .b) (L .T * L .k)
+      count-ext _ (λ s. f (s % L .design .b)) (stripes L) (λ s l. ap f (tuple-row L E s))
+      ∙ ap (count (λ s. f (s % L .design .b))) (omega arith)
+      ∙ count-digit f (L .design .b) (L .T * L .design .k)
 
-  pub disk-stripes : (d : ℕ) → d < L .v → count (λ s. stripeHolds L s d) (stripes L) ≡ L .T * L .r * L .k
+  pub disk-stripes : (d : ℕ) → d < L .design .v → count (λ s. stripeHolds L s d) (stripes L) ≡ L .T * L .r * L .design .k
   unfolding before
   disk-stripes d hd =
-      tuple-count (λ q. holds (tuples L) q d) ∙ ap (λ (n : ℕ). L .T * L .k * n) (E .often d hd) ∙ omega arith
+      tuple-count (λ q. holds (L .design) q d) ∙ ap (λ (n : ℕ). L .T * L .design .k * n) (E .often d hd) ∙ omega arith
 
   pub both-stripes : (d e : ℕ)
-      → count (λ s. stripeHolds L s d && stripeHolds L s e) (stripes L) ≡ L .T * L .k * shared (tuples L) (L .b) d e
+      → count (λ s. stripeHolds L s d && stripeHolds L s e) (stripes L) ≡ L .T * L .design .k * shared (L .design) (L .design .b) d e
   unfolding shared
-  both-stripes d e = tuple-count (λ q. holds (tuples L) q d && holds (tuples L) q e)
+  both-stripes d e = tuple-count (λ q. holds (L .design) q d && holds (L .design) q e)
 
-  pub offset-rank : (s p : ℕ) → p < L .k → offsetOf L s p ≡ count (λ s′. stripeHolds L s′ (diskOf L s p)) s
+  pub offset-rank : (s p : ℕ) → p < L .design .k → offsetOf L s p ≡ count (λ s′. stripeHolds L s′ (diskOf L s p)) s
   unfolding before
   offset-rank s p hp =
       let d : ℕ = diskOf L s p in
-      let l : s % L .b ≤ L .b = omega (arith, mod-lt s (E .b-pos)) in
+      let l : s % L .design .b ≤ L .design .b = omega (arith, mod-lt s (E .b-pos)) in
       offset-row L E s p
-      ∙ ap₂ (λ (x y : ℕ). s / L .b * x + before (tuples L) y d) (sym (E .often d (disk-lt L E s p hp))) (tuple-row L E s)
-      ∙ sym (count-digits (λ q. holds (tuples L) q d) (L .b) (s / L .b) (s % L .b) l)
-      ∙ ap (count (λ s′. holds (tuples L) (s′ % L .b) d)) (div-add-mod' s (L .b))
-      ∙ count-ext _ _ s (λ s′ m. ap (λ (q : ℕ). holds (tuples L) q d) (sym (tuple-row L E s′)))
+      ∙ ap₂ (λ (x y : ℕ). s / L .design .b * x + before (L .design) y d) (sym (E .often d (disk-lt L E s p hp))) (tuple-row L E s)
+      ∙ sym (count-digits (λ q. holds (L .design) q d) (L .design .b) (s / L .design .b) (s % L .design .b) l)
+      ∙ ap (count (λ s′. holds (L .design) (s′ % L .design .b) d)) (div-add-mod' s (L .design .b))
+      ∙ count-ext _ _ s (λ s′ m. ap (λ (q : ℕ). holds (L .design) q d) (sym (tuple-row L E s′)))
 
   -- of the units of disk d, those whose tuple holds e: what a rebuild of d reads from e
-  pub rebuild-reads : (d e : ℕ) → d < L .v
-      → count (λ o. holds (tuples L) (tupleAt L d o) e) (offsets L) ≡ L .T * L .k * shared (tuples L) (L .b) d e
+  pub rebuild-reads : (d e : ℕ) → d < L .design .v
+      → count (λ o. holds (L .design) (tupleAt L d o) e) (offsets L) ≡ L .T * L .design .k * shared (L .design) (L .design .b) d e
   unfolding shared before tupleAt
   rebuild-reads d e hd =
-      let f : ℕ → Bool = λ q. holds (tuples L) q d in
-      let g : ℕ → Bool = λ m. holds (tuples L) (nth f (L .b) m) e in
+      let f : ℕ → Bool = λ q. holds (L .design) q d in
+      let g : ℕ → Bool = λ m. holds (L .design) (nth f (L .design .b) m) e in
       ap (count (λ o. g (o % L .r))) (omega arith)
-      ∙ count-digit g (L .r) (L .T * L .k)
-      ∙ ap (λ (n : ℕ). L .T * L .k * n) (ap (count g) (sym (E .often d hd)) ∙ count-nth f (λ q. holds (tuples L) q e) (L .b))
+      ∙ count-digit g (L .r) (L .T * L .design .k)
+      ∙ ap (λ (n : ℕ). L .T * L .design .k * n) (ap (count g) (sym (E .often d hd)) ∙ count-nth f (λ q. holds (L .design) q e) (L .design .b))
 
   -- one for each stripe that d shares with e
-  pub reads-shared : (d e : ℕ) → d < L .v
+  pub reads-shared : (d e : ℕ) → d < L .design .v
       → count (λ o. stripeHolds L (stripeAt L d o) e) (offsets L) ≡ count (λ s. stripeHolds L s d && stripeHolds L s e) (stripes L)
   reads-shared d e hd =
-      count-ext _ _ (offsets L) (λ o l. ap (λ (q : ℕ). holds (tuples L) q e) (tuple-there L E d o hd))
+      count-ext _ _ (offsets L) (λ o l. ap (λ (q : ℕ). holds (L .design) q e) (tuple-there L E d o hd))
       ∙ rebuild-reads d e hd
       ∙ sym (both-stripes d e)
 

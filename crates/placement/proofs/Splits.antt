@@ -15,22 +15,22 @@ use Rattle.placement.proofs.Even.{Even, even-shelf}
 use Rattle.placement.proofs.Row.{tuple-lt, copy-lt, rank-lt}
 use Rattle.placement.proofs.Bounds.{bounds}
 
-pub split-parity : (L : Layout) (s : ℕ) {at : Split} → at ≡ splitOf (L .k) (L .b) s → at .parity ≡ parityOf L s
+pub split-parity : (L : Layout) (s : ℕ) {at : Split} → at ≡ splitOf (L .design .k) (L .design .b) s → at .parity ≡ parityOf L s
 unfolding splitOf
 split-parity L s q = ap (λ (x : Split). x .parity) q
 
-pub split-place : (L : Layout) (s p : ℕ) {at : Split} {x : Place} → at ≡ splitOf (L .k) (L .b) s → x ≡ placeIn L at p → x ≡ placeOf L s p
+pub split-place : (L : Layout) (s p : ℕ) {at : Split} {x : Place} → at ≡ splitOf (L .design .k) (L .design .b) s → x ≡ placeIn L at p → x ≡ placeOf L s p
 unfolding placeIn splitOf placeOf offsetOf
 split-place L s p q r = r ∙ ap (λ (at : Split). placeIn L at p) q
 
 module _ (L : Layout) (E : Even L) where
-  pub split-in : (s : ℕ) → s < stripes L → SplitIn L (splitOf (L .k) (L .b) s)
+  pub split-in : (s : ℕ) → s < stripes L → SplitIn L (splitOf (L .design .k) (L .design .b) s)
   unfolding splitOf
   split-in s l =
-      let some : 0 < L .b * L .k = mul-pos (E .b-pos) (omega (arith, E .k-least)) in
+      let some : 0 < L .design .b * L .design .k = mul-pos (E .b-pos) (omega (arith, E .k-least)) in
       record { full-table = div-lt-iff-lt-mul some .1 (omega arith); copy = copy-lt L E s; tuple = tuple-lt L E s }
 
-  offset-below : (at : Split) (p : ℕ) → SplitIn L at → p < L .k → placeIn L at p .offset < offsets L
+  offset-below : (at : Split) (p : ℕ) → SplitIn L at → p < L .design .k → placeIn L at p .offset < offsets L
   unfolding placeIn
   offset-below at p w hp = omega (arith, digits-lt (digits-lt (w .full-table) (w .copy)) (rank-lt L E (at .tuple) p (w .tuple) hp))
 
@@ -38,8 +38,8 @@ module _ (L : Layout) (E : Even L) where
 
 module _ (h : Shelf) (e : isShelf h ≡ true) where
   -- what splitting asks
-  pub split-asks : (1 ≤ h .k) × (1 ≤ h .b) × (h .b * h .k ≤ 2048)
-  split-asks = let l = shelf-parts h e .limits in (omega (arith, l .k-least), l .b-least, l .places)
+  pub split-asks : (1 ≤ h .k) × (1 ≤ h .b) × (h .b * h .k < 2 ^ 64)
+  split-asks = let l = shelf-parts h e .limits in (omega (arith, l .k-least), l .b-least, omega (arith, l .places))
 
   pub split-of-in : {s : ℕ} {at : Split} → s < stripes (layoutIn h) → at ≡ splitOf (h .k) (h .b) s → SplitIn (layoutIn h) at
   split-of-in {s} l q = rw q (split-in (layoutIn h) (even-shelf h e) s l)

@@ -45,27 +45,27 @@ module _ (L : Layout) (d o : ℕ) {s p : ℕ} (stripe : stripeAt L d o ≡ s) (p
   stands-data ne = rw (stripe, position, ne-eqb p (parityOf L s) ne)
 
 module _ (L : Layout) (E : Even L) where
-  data-pos : 0 < L .k - 1
+  data-pos : 0 < L .design .k - 1
   data-pos = omega (arith, E .k-least)
 
   -- ---- what stands at the place of a position
 
   pub parity-back : (s : ℕ) → standsAt L (diskOf L s (parityOf L s)) (offsetOf L s (parityOf L s)) ≡ LookUp.Parity s
   parity-back s =
-      let l : parityOf L s < L .k = parity-lt L E s in
+      let l : parityOf L s < L .design .k = parity-lt L E s in
       stands-parity L _ _ (stripe-back L E s (parityOf L s) l) (position-back L E s (parityOf L s) l) refl
 
-  data-stands : (s j : ℕ) → j < L .k - 1
-      → standsAt L (diskOf L s (positionOf L s j)) (offsetOf L s (positionOf L s j)) ≡ LookUp.Data s (s * (L .k - 1) + j)
+  data-stands : (s j : ℕ) → j < L .design .k - 1
+      → standsAt L (diskOf L s (positionOf L s j)) (offsetOf L s (positionOf L s j)) ≡ LookUp.Data s (s * (L .design .k - 1) + j)
   data-stands s j h =
       let x : ℕ = positionOf L s j in
-      let l : x < L .k = position-lt L E s j h in
+      let l : x < L .design .k = position-lt L E s j h in
       stands-data L _ _ (stripe-back L E s x l) (position-back L E s x l) (position-ne L E s j)
-      ∙ ap (λ (i : ℕ). LookUp.Data s (s * (L .k - 1) + i)) (under-over (parityOf L s) j)
+      ∙ ap (λ (i : ℕ). LookUp.Data s (s * (L .design .k - 1) + i)) (under-over (parityOf L s) j)
 
   -- ---- the place of an address
 
-  pub j-lt : (a : ℕ) → jOf L a < L .k - 1
+  pub j-lt : (a : ℕ) → jOf L a < L .design .k - 1
   j-lt a = mod-lt a data-pos
 
   pub stripe-below : (a : ℕ) → (stripeOf L a < stripes L) ↔ (a < addresses L)
@@ -74,7 +74,7 @@ module _ (L : Layout) (E : Even L) where
   pub address-back : (a : ℕ) → standsAt L (spotOf L a .disk) (spotOf L a .offset) ≡ LookUp.Data (stripeOf L a) a
   unfolding spotOf
   address-back a =
-      data-stands (stripeOf L a) (jOf L a) (j-lt a) ∙ ap (LookUp.Data (stripeOf L a)) (div-add-mod' a (L .k - 1))
+      data-stands (stripeOf L a) (jOf L a) (j-lt a) ∙ ap (LookUp.Data (stripeOf L a)) (div-add-mod' a (L .design .k - 1))
 
   pub place-stands : {a d o : ℕ} → PlaceOf L a d o → standsAt L d o ≡ LookUp.Data (stripeOf L a) a
   place-stands {a} w = rw (← w .disk, ← w .offset) (address-back a)
@@ -84,13 +84,13 @@ module _ (L : Layout) (E : Even L) where
 
   -- ---- the places of an address and of its stripe's parity are places
 
-  pub place-below : (a : ℕ) → a < addresses L → (spotOf L a .disk < L .v) × (spotOf L a .offset < offsets L)
+  pub place-below : (a : ℕ) → a < addresses L → (spotOf L a .disk < L .design .v) × (spotOf L a .offset < offsets L)
   unfolding spotOf
   place-below a h =
       let l = position-lt L E (stripeOf L a) (jOf L a) (j-lt a) in
       (disk-lt L E (stripeOf L a) _ l, offset-lt L E (stripeOf L a) _ (stripe-below a .1 h) l)
 
-  pub parity-below : (s : ℕ) → s < stripes L → (diskOf L s (parityOf L s) < L .v) × (offsetOf L s (parityOf L s) < offsets L)
+  pub parity-below : (s : ℕ) → s < stripes L → (diskOf L s (parityOf L s) < L .design .v) × (offsetOf L s (parityOf L s) < offsets L)
   parity-below s h =
       (disk-lt L E s (parityOf L s) (parity-lt L E s), offset-lt L E s (parityOf L s) h (parity-lt L E s))
 
@@ -107,7 +107,7 @@ module _ (L : Layout) (E : Even L) where
 
   -- ---- every place
 
-  module _ (d o : ℕ) (hd : d < L .v) (ho : o < offsets L) where
+  module _ (d o : ℕ) (hd : d < L .design .v) (ho : o < offsets L) where
     found-parity : positionAt L d o ≡ parityOf L (stripeAt L d o) → ParityPlaceOf L (stripeAt L d o) d o
     found-parity e = record {
       disk = ap (diskOf L (stripeAt L d o)) (sym e) ∙ disk-there L E d o hd;

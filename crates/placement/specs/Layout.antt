@@ -10,53 +10,48 @@ use Rattle.design.specs.Count.{nth}
 use Rattle.design.specs.Tuples.{Design, holds, before}
 use Rattle.design.specs.Shelf.{designIn}
 
+-- each disk stands in r tuples of the design, and there are T full tables
 pub record Layout : Type 0 where
-  pub v : ℕ
-  pub k : ℕ
-  pub b : ℕ
+  pub design : Design
   pub r : ℕ
   pub T : ℕ
-  pub disk : ℕ → ℕ → ℕ
-
-abbrev pub tuples : Layout → Design
-tuples L = record { v = L .v; k = L .k; b = L .b; disk = L .disk }
 
 abbrev pub layoutIn : Shelf → Layout
-layoutIn h = record { v = h .v; k = h .k; b = h .b; r = h .r; T = h .T; disk = designIn h .disk }
+layoutIn h = record { design = designIn h; r = h .r; T = h .T }
 
 -- S stripes, N addresses, and the units on each disk
 abbrev pub stripes : Layout → ℕ
-stripes L = L .T * L .b * L .k
+stripes L = L .T * L .design .b * L .design .k
 
 abbrev pub addresses : Layout → ℕ
-addresses L = stripes L * (L .k - 1)
+addresses L = stripes L * (L .design .k - 1)
 
 abbrev pub offsets : Layout → ℕ
-offsets L = L .T * L .r * L .k
+offsets L = L .T * L .r * L .design .k
 
 -- ---- the steps of the split, in the document's order
 
 abbrev pub stripeOf : Layout → ℕ → ℕ
-stripeOf L a = a / (L .k - 1)
+stripeOf L a = a / (L .design .k - 1)
 
 abbrev pub jOf : Layout → ℕ → ℕ
-jOf L a = a % (L .k - 1)
+jOf L a = a % (L .design .k - 1)
 
 abbrev pub fullTableOf : Layout → ℕ → ℕ
-fullTableOf L s = s / (L .b * L .k)
+fullTableOf L s = s / (L .design .b * L .design .k)
 
 abbrev pub wOf : Layout → ℕ → ℕ
-wOf L s = s % (L .b * L .k)
+wOf L s = s % (L .design .b * L .design .k)
 
 abbrev pub copyOf : Layout → ℕ → ℕ
-copyOf L s = wOf L s / L .b
+copyOf L s = wOf L s / L .design .b
 
 abbrev pub tupleOf : Layout → ℕ → ℕ
-tupleOf L s = wOf L s % L .b
+tupleOf L s = wOf L s % L .design .b
 
 -- the parity's position in stripe s, and that of data j
 abbrev pub parityOf : Layout → ℕ → ℕ
-parityOf L s = L .k - 1 - copyOf L s
+parityOf L s = L .design .k - 1 - copyOf L s
 
 abbrev pub positionOf : Layout → ℕ → ℕ → ℕ
 positionOf L s j = cond (ltb j (parityOf L s)) j (j + 1)
@@ -70,16 +65,16 @@ splitOf k b s =
 -- a split of a stripe below S has these
 pub record SplitIn (L : Layout) (at : Split) : Type 0 where
   pub full-table : at .«full_table» < L .T
-  pub copy : at .copy < L .k
-  pub tuple : at .tuple < L .b
+  pub copy : at .copy < L .design .k
+  pub tuple : at .tuple < L .design .b
 
 -- ---- the place of position p of stripe s
 
 abbrev pub diskOf : Layout → ℕ → ℕ → ℕ
-diskOf L s p = L .disk (tupleOf L s) p
+diskOf L s p = L .design .disk (tupleOf L s) p
 
 unfoldable pub offsetOf : Layout → ℕ → ℕ → ℕ
-offsetOf L s p = fullTableOf L s * L .r * L .k + copyOf L s * L .r + before (tuples L) (tupleOf L s) (diskOf L s p)
+offsetOf L s p = fullTableOf L s * L .r * L .design .k + copyOf L s * L .r + before (L .design) (tupleOf L s) (diskOf L s p)
 
 unfoldable pub placeOf : Layout → ℕ → ℕ → Place
 placeOf L s p = record { disk = diskOf L s p; offset = offsetOf L s p }
@@ -87,21 +82,21 @@ placeOf L s p = record { disk = diskOf L s p; offset = offsetOf L s p }
 -- the same from a stripe's split
 unfoldable pub placeIn : Layout → Split → ℕ → Place
 placeIn L at p =
-    let d : ℕ = L .disk (at .tuple) p in
-    record { disk = d; offset = at .«full_table» * L .r * L .k + at .copy * L .r + before (tuples L) (at .tuple) d }
+    let d : ℕ = L .design .disk (at .tuple) p in
+    record { disk = d; offset = at .«full_table» * L .r * L .design .k + at .copy * L .r + before (L .design) (at .tuple) d }
 
 -- ---- what stands at offset o of disk d
 
 -- its tuple is the (o mod r)-th that holds d
 unfoldable pub tupleAt : Layout → ℕ → ℕ → ℕ
-tupleAt L d o = nth (λ q. holds (tuples L) q d) (L .b) (o % L .r)
+tupleAt L d o = nth (λ q. holds (L .design) q d) (L .design .b) (o % L .r)
 
 unfoldable pub stripeAt : Layout → ℕ → ℕ → ℕ
-stripeAt L d o = o / L .r * L .b + tupleAt L d o
+stripeAt L d o = o / L .r * L .design .b + tupleAt L d o
 
 unfoldable pub positionAt : Layout → ℕ → ℕ → ℕ
-positionAt L d o = nth (λ p. eqb (L .disk (tupleAt L d o) p) d) (L .k) 0
+positionAt L d o = nth (λ p. eqb (L .design .disk (tupleAt L d o) p) d) (L .design .k) 0
 
 -- the address of the data at position p of stripe s
 abbrev pub addressOf : Layout → ℕ → ℕ → ℕ
-addressOf L s p = s * (L .k - 1) + cond (ltb p (parityOf L s)) p (p - 1)
+addressOf L s p = s * (L .design .k - 1) + cond (ltb p (parityOf L s)) p (p - 1)

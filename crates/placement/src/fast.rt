@@ -1,7 +1,7 @@
 // For the layer above: the same placement of a shelf that has passed rule 10, which is not tried again here.
 ghost use mathlib.Core.Path.{_≡_};
 ghost use mathlib.Core.Bool.{true};
-ghost use Prim.Native.Nat.{ℕ, _+_, _*_, _≤_, _<_};
+ghost use Prim.Native.Nat.{ℕ, _+_, _*_, _^_, _≤_, _<_};
 ghost use lib.Dec.{eqb};
 ghost use lib.ListN.{getD};
 ghost use Rattle.design.specs.Count.{count, nth};
@@ -56,7 +56,7 @@ pub fn offsets(shelf: Shelf) -> usize
 
 // The steps of document 01, from the stripe on.
 pub fn split_of(k: usize, b: usize, stripe: usize) -> Split
-    requires { ⌜ (1 ≤ k) × (1 ≤ b) × (b * k ≤ 2048) ⌝ }
+    requires { ⌜ (1 ≤ k) × (1 ≤ b) × (b * k < 2 ^ 64) ⌝ }
     ensures { λ r. ⌜ r ≡ splitOf k b stripe ⌝ }
 {
     let full_table = stripe / (b * k);

@@ -16,7 +16,7 @@ use Rattle.design.proofs.Accepted.{pairs-alike}
 use Rattle.design.proofs.Counting.{alike, both, both-of, count-ext}
 use Rattle.design.proofs.Tests.{pairs-even}
 use Rattle.design.proofs.ShelfTests.{shelf-parts}
-use Rattle.placement.specs.Layout.{Layout, layoutIn, tuples, fullTableOf, copyOf, tupleAt, stripeAt}
+use Rattle.placement.specs.Layout.{Layout, layoutIn, fullTableOf, copyOf, tupleAt, stripeAt}
 use Rattle.placement.proofs.Even.{Even, even-shelf}
 use Rattle.placement.proofs.Row.{copy-lt, row}
 use Rattle.placement.proofs.Rows.{count-nth}
@@ -78,20 +78,20 @@ module _ (h : Shelf) (ok : isShelf h ≡ true) (t c d e : ℕ) (ht : t < h .T) (
   at o = eqb (fullTableOf L (stripeAt L e o)) t && eqb (copyOf L (stripeAt L e o)) c && onDisk h (stripeAt L e o) d
 
   abbrev meets : ℕ → Bool
-  meets i = holds (tuples L) (nth (λ q. holds (tuples L) q e) (L .b) i) d
+  meets i = holds (L .design) (nth (λ q. holds (L .design) q e) (L .design .b) i) d
 
   by-offset : (n : ℕ) → takenFor h t c d e n ≡ (eqb (diskAt h n) e && at (n % depth h))
   unfolding takenFor stripeHere
   by-offset n = cases (eqb (diskAt h n) e) (λ p. rw (p, eqb-true (diskAt h n) e p)) (λ p. rw p)
 
-  by-rank : (o : ℕ) → at o ≡ (eqb (o / L .r) (t * L .k + c) && meets (o % L .r))
+  by-rank : (o : ℕ) → at o ≡ (eqb (o / L .r) (t * L .design .k + c) && meets (o % L .r))
   unfolding tupleAt
   by-rank o =
       let s : ℕ = stripeAt L e o in
       ap₂ _&&_
-      (same-digits (L .k) (fullTableOf L s) (copyOf L s) t c (copy-lt L E s) hc
-      ∙ ap (λ (m : ℕ). eqb m (t * L .k + c)) (row L E s ∙ row-there L E e o he))
-      (ap (λ (q : ℕ). holds (tuples L) q d) (tuple-there L E e o he))
+      (same-digits (L .design .k) (fullTableOf L s) (copyOf L s) t c (copy-lt L E s) hc
+      ∙ ap (λ (m : ℕ). eqb m (t * L .design .k + c)) (row L E s ∙ row-there L E e o he))
+      (ap (λ (q : ℕ). holds (L .design) q d) (tuple-there L E e o he))
 
   pub copy-takes : (hd : d < h .v) → e ≢ d → count (takenFor h t c d e) (units h) ≡ h .lambda
   unfolding before shared
@@ -99,10 +99,10 @@ module _ (h : Shelf) (ok : isShelf h ≡ true) (t c d e : ℕ) (ht : t < h .T) (
       count-ext _ _ (units h) (λ n l. by-offset n)
       ∙ disk-count h ok at e he
       ∙ count-ext _ _ (depth h) (λ o l. by-rank o)
-      ∙ ap (count (λ o. eqb (o / L .r) (t * L .k + c) && meets (o % L .r))) (omega arith)
-      ∙ row-count meets (L .r) (L .T * L .k) (t * L .k + c) (E .r-pos) (digits-lt ht hc)
+      ∙ ap (count (λ o. eqb (o / L .r) (t * L .design .k + c) && meets (o % L .r))) (omega arith)
+      ∙ row-count meets (L .r) (L .T * L .design .k) (t * L .design .k + c) (E .r-pos) (digits-lt ht hc)
       ∙ ap (count meets) (sym (E .often e he))
-      ∙ count-nth (λ q. holds (tuples L) q e) (λ q. holds (tuples L) q d) (L .b)
+      ∙ count-nth (λ q. holds (L .design) q e) (λ q. holds (L .design) q d) (L .design .b)
       ∙ pairs-alike (designIn h) (h .lambda) .0 (pairs-even (designIn h) (h .lambda) .1 (shelf-parts h ok .paired)) e d he hd ne
 
 -- the units that a rebuild takes are those that it takes for their copies

@@ -22,6 +22,7 @@ module _ (table ranks : List ℕ) (shape : Shape) where
   -- the units of stripe s are in an image of n bytes, each in a place of its own, and their numbers fit
   pub record Placed (s n : ℕ) : Type 0 where
     pub two : 2 ≤ shape .k
+    pub most : shape .k ≤ 16
     pub some : 1 ≤ shape .b
     pub entries : shape .b * shape .k ≤ 2048
     pub often : shape .r ≤ shape .b

@@ -84,7 +84,7 @@ written c = put-then (line-fits (start (at-number (at-place (at-data (at-end c))
 -- ---- the needs
 
 split-of-requires : tie.Need-split-of-requires
-split-of-requires c κs = let R = c .before .pre .1 in (omega (arith, R .k-least), R .b-least, R .places)
+split-of-requires c κs = let R = c .before .pre .1 in (omega (arith, R .k-least), R .b-least, omega (arith, R .places))
 
 mul-row : tie.Need-mul-row
 mul-row c = omega (arith, numbers (c .before) .row)

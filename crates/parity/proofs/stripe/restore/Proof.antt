@@ -1,73 +1,46 @@
--- `parity::stripe::restore` meets its contract. The loop's invariant: unit i of the stripe is the exclusive-or of the units before unit j
--- but itself. Assumes nothing.
-use mathlib.Core.Path.{refl, _∙_}
-use mathlib.Core.Logic.{⊎-elim}
-use Prim.Native.Nat.{_-_, _≤_}
+-- `parity::stripe::restore` meets its contract: a unit of whole blocks is restored by them, and their bytes are its bytes. Assumes
+-- nothing.
+use mathlib.Core.Path.{_≡_, _∙_}
+use Prim.Native.Nat.{ℕ, _*_, _/_, _%_}
 use native.Mathlib.Omega.{arith}
-use lib.ListN.{length-replicate}
+use lib.ListN.{length}
 use borrow.Author.Needs.{needs}
-use Rattle.parity.specs.Units.{zeros}
-use Rattle.parity.proofs.StripeSums.{StripeSum, stripe-begun, stripe-mixes, stripe-next, stripe-over, stripe-all, sum-size}
+use borrow.Author.Tests.{eqb-true}
+use Rattle.parity.specs.inner.Sums.{numberBy}
+use Rattle.parity.proofs.ByBlocks.{listed-within, listed-rest}
 use Rattle.parity.proofs.stripe.restore.Statement.{statement}
 use Rattle.parity.proofs.stripe.restore.Tie as tie
 
-abbrev Inv-loop : tie.InvT-loop
-Inv-loop image₀ table ranks shape s i k size to begun j₀ image j = (j ≤ k) × StripeSum table ranks shape s i i (zeros size) to image₀ image j
+abbrev start : tie.After-numbers → tie.Start
+start c = c .before .before .before .before
 
-abbrev μ-loop : tie.MeasureT-loop
-μ-loop image₀ table ranks shape s i k size to begun j₀ image j = k - j
+abbrev number : tie.Start → ℕ → ℕ
+number c = numberBy (c .args .table .now) (c .args .ranks .now) (c .args .shape) (c .args .s)
 
-begin-requires : tie.Need-begin-requires Inv-loop μ-loop
-begin-requires c κs =
-    let start = c .before .before .before in
-    (start .pre .0, (start .pre .1, c .before .number .ensures))
+whole : (c : tie.After-numbers) → let size : ℕ = start c .args .shape .size in size / 128 * 128 ≡ size
+whole c = omega (arith, eqb-true (start c .args .shape .size % 128) 0 (c .before .if2 .taken))
 
-loop-holds : tie.Need-loop-holds Inv-loop μ-loop
-loop-holds c =
+restore-requires : tie.Need-restore-requires
+restore-requires c κs =
     let at = c .before .before in
-    let start = at .before .before .before .before in
-    let begun = at .begin .ensures in
-    (begun .0, stripe-begun (start .args .image .now) (start .pre .0) (start .pre .1) (at .before .before .number .ensures) (length-replicate _ 0) (begun .0) (λ n l ne. ne) (begun .1))
+    let s = start at in
+    ((s .pre .0 .most, s .pre .1), rw (whole at) (listed-within (at .numbers .result) (number s) (s .args .shape .k) (at .numbers .ensures) (s .args .shape .size) (length (s .args .image .now)) (s .pre .0 .within)))
 
-mix-within-requires : tie.Need-mix-within-requires Inv-loop μ-loop
-mix-within-requires c κs =
-    let turn = c .before .before .before in
-    stripe-mixes (turn .before .loop .inv .1) (turn .loop-test .taken) (c .before .number2 .ensures)
-
-loop-again : tie.Need-loop-again Inv-loop μ-loop
-loop-again c =
-    let sum = c .before .before .loop .inv .1 in (
-      omega arith,
-      ⊎-elim
-          (λ w. stripe-next sum (c .before .loop-test .taken) (w .1 .ensures) (w .0 .taken) (w .0 .taken) (w .6 ∙ w .3 .ensures))
-          (λ w. rw (w .1) (stripe-over sum (w .0 .left) refl))
-          (c .if1 .came),
-    )
-
-same-length : tie.Need-same-length Inv-loop μ-loop
-same-length c = c .before .loop .inv .1 .sum .same ∙ c .before .before .before .before .begin .kept .0
-
-returns : tie.Need-returns Inv-loop μ-loop
+returns : tie.Need-returns
 returns c =
-    let at = c .before .before .before .before in
-    let start = at .before .before .before .before in
-    let inv = c .before .loop .inv in
-    let begun = at .begin .ensures in
-    stripe-all (inv .1) (start .args .image .now) _ (start .pre .0) (sum-size _ _ _ (start .pre .0) (begun .0)) (begun .1) (inv .0) (c .loop-test .left) (omega arith) (λ n l ne. ne)
+    let done = c .before .before in
+    let at = done .before .before .before in
+    let s = start at in
+    rw (whole at) at (done .restore .ensures) ∙ listed-rest (at .numbers .result) (number s) (s .args .shape .k) (at .numbers .ensures) (s .args .shape .size) (s .args .image .now) (s .args .i) (s .pre .1)
 
 pub restore-spec : {M : Type 1} → statement M
 restore-spec =
     tie.close
     (tie.spec
-    Inv-loop
-    μ-loop
     (λ c κs. search needs)
-    begin-requires
-    loop-holds
+    restore-requires
     (λ c κs. search needs)
-    mix-within-requires
-    (λ c. omega arith)
-    (λ c. omega arith)
-    loop-again
-    same-length
-    returns)
+    (λ c. search needs)
+    returns
+    (λ c. search needs)
+    (λ c. search needs))
