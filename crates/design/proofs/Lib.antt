@@ -3,6 +3,11 @@ pub mod Sums
 pub mod Tests
 pub mod Twice
 pub mod ShelfTests
+pub mod Bits
+pub mod Lanes
+pub mod Rows
+pub mod Masks
+pub mod Compare
 pub mod Tallies
 pub mod Lowest
 pub mod Refused

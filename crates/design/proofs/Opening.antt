@@ -14,6 +14,7 @@ use Rattle.design.specs.declared.Verdict.the-variants.{Accepted, Refused
 use Rattle.design.specs.Count.{every}
 use Rattle.design.specs.Refusals.{Rule, firstBroken}
 use Rattle.design.specs.Tuples.{Design, inTable, Different, holds, before, shared, disksBelow, noneTwice, disksEven, pairsEven}
+use Rattle.design.specs.inner.Planes.{counted}
 use Rattle.design.specs.inner.Tally.{Tallied}
 use Rattle.design.specs.Sheet.{editionOf, vOf, kOf, bOf, TOf, uOf, sheetLength, tableOf, withinLimits, fillingZero, sheetRules, shelfOf, openedBy, opened, HeaderRead}
 use Rattle.design.proofs.Tests.{below-flat, below-at}
@@ -128,18 +129,18 @@ module _ (s : List ℕ) (v k b : ℕ) (table : List ℕ) (e : table ≡ tableOf 
   different-read p = twice (inTable v k b table) .0 (ap noneTwice design-is ∙ p)
 
   module _ (v-most : v ≤ 64) (counts : List ℕ) (tallied : Tallied (inTable 0 k b table) b counts) where
-    pub disks-read : {t : Bool} (r : ℕ) → t ≡ every v (λ d. eqb (getD counts (d * 64 + d) 0) r) → t ≡ disksEven (readDesign s v k b) r
+    pub disks-read : {t : Bool} (r : ℕ) → t ≡ every v (λ d. eqb (counted counts d d) r) → t ≡ disksEven (readDesign s v k b) r
     disks-read r p = p ∙ even-disks v k b table counts v-most tallied r ∙ ap (λ (D : Design). disksEven D r) design-is
 
-    pub pairs-read : {t : Bool} (lambda : ℕ) → t ≡ every v (λ d. every d (λ e. eqb (getD counts (d * 64 + e) 0) lambda)) → t ≡ pairsEven (readDesign s v k b) lambda
+    pub pairs-read : {t : Bool} (lambda : ℕ) → t ≡ every v (λ d. every d (λ e. eqb (counted counts d e) lambda)) → t ≡ pairsEven (readDesign s v k b) lambda
     pairs-read lambda p = p ∙ even-pairs v k b table counts v-most tallied lambda ∙ ap (λ (D : Design). pairsEven D lambda) design-is
 
-    shared-read : (d e : ℕ) → d < 64 → e < 64 → getD counts (d * 64 + e) 0 ≡ shared (readDesign s v k b) b d e
+    shared-read : (d e : ℕ) → d < 64 → counted counts d e ≡ shared (readDesign s v k b) b d e
     unfolding shared holds
-    shared-read d e hd he = tallied d e hd he ∙ ap (λ (D : Design). shared D b d e) design-is
+    shared-read d e hd = tallied d e hd ∙ ap (λ (D : Design). shared D b d e) design-is
 
-    pub r-read : getD counts 0 0 ≡ before (readDesign s v k b) b 0
-    r-read = shared-read 0 0 (omega arith) (omega arith) ∙ shared-self (readDesign s v k b) b 0
+    pub r-read : counted counts 0 0 ≡ before (readDesign s v k b) b 0
+    r-read = shared-read 0 0 (omega arith) ∙ shared-self (readDesign s v k b) b 0
 
-    pub lambda-read : getD counts 64 0 ≡ shared (readDesign s v k b) b 1 0
-    lambda-read = shared-read 1 0 (omega arith) (omega arith)
+    pub lambda-read : counted counts 1 0 ≡ shared (readDesign s v k b) b 1 0
+    lambda-read = shared-read 1 0 (omega arith)

@@ -15,11 +15,6 @@ unfoldable pub sum : (ℕ → ℕ) → ℕ → ℕ
 sum f zero = zero
 sum f (suc n) = sum f n + f n
 
--- a loop's step
-pub sum-next : (f : ℕ → ℕ) (n : ℕ) → sum f (n + 1) ≡ sum f n + f n
-unfolding sum
-sum-next f n = rw add-one
-
 pub sum-ext : (f g : ℕ → ℕ) (n : ℕ) → ((i : ℕ) → i < n → f i ≡ g i) → sum f n ≡ sum g n
 unfolding sum
 sum-ext f g zero h = refl
@@ -39,11 +34,6 @@ pub sum-mul : (c : ℕ) (f : ℕ → ℕ) (n : ℕ) → sum (λ i. c * f i) n �
 unfolding sum
 sum-mul c f zero = omega arith
 sum-mul c f (suc n) = omega (arith, sum-mul c f n)
-
-pub sum-le : (f g : ℕ → ℕ) (n : ℕ) → ((i : ℕ) → i < n → f i ≤ g i) → sum f n ≤ sum g n
-unfolding sum
-sum-le f g zero h = omega arith
-sum-le f g (suc n) h = omega (arith, sum-le f g n (λ i l. h i (omega arith)), h n (omega arith))
 
 -- the order of two sums is free
 pub sum-swap : (f : ℕ → ℕ → ℕ) (m n : ℕ) → sum (λ i. sum (λ j. f i j) n) m ≡ sum (λ j. sum (λ i. f i j) m) n

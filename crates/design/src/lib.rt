@@ -5,6 +5,7 @@ ghost use Rattle.design.specs.Sheet.{emptyShelf, opened};
 ghost use Rattle.design.specs.Shelf.{isShelf, WroteBack};
 
 mod back;
+mod planes;
 mod read;
 mod reader;
 mod rules;

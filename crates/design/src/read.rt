@@ -11,6 +11,7 @@ use crate::Refusal;
 use crate::Shelf;
 use crate::Table;
 use crate::Verdict;
+use crate::planes;
 use crate::reader;
 use crate::rules;
 use crate::tally;
@@ -76,11 +77,11 @@ fn open_table(sheet: &[u8], v: usize, k: usize, b: usize, t: usize, u: usize) ->
         return refused(Refusal::FillingSet);
     }
     let counts = tally::tally(&table, k, b);
-    let r = counts[0] as usize;
+    let r = planes::count_of(&counts, 0, 0);
     if !tally::disks_even(&counts, v, r) {
         return refused(Refusal::DisksUneven);
     }
-    let lambda = counts[Shelf::V_MOST] as usize;
+    let lambda = planes::count_of(&counts, 1, 0);
     if !tally::pairs_even(&counts, v, lambda) {
         return refused(Refusal::PairsUneven);
     }

@@ -12,7 +12,8 @@ use Rattle.design.specs.Count.{count, listFrom}
 use Rattle.design.specs.Shelf.{isShelf}
 use Rattle.design.proofs.Counting.{getD-listFrom}
 use Rattle.design.proofs.ShelfTests.{shelf-parts}
-use Rattle.placement.specs.Layout.{layoutIn, stripes, diskOf, offsetOf, placeOf, parityOf, positionOf, splitOf}
+use Rattle.placement.specs.Slots.{positionOf}
+use Rattle.placement.specs.Layout.{layoutIn, stripes, diskOf, offsetOf, placeOf, parityOf, splitOf}
 use Rattle.placement.proofs.Bounds.{bounds}
 use Rattle.placement.proofs.Even.{even-shelf}
 use Rattle.placement.proofs.Row.{disk-lt, offset-lt}
@@ -65,7 +66,7 @@ module _ (h : Shelf) (ok : isShelf h ≡ true) (s : ℕ) (hs : s < stripes (layo
         let E = even-shelf h ok in
         let number = digits-most 8 s (omega (arith, bounds h ok .stripes)) in
         let parity = word (parityOf L s) in
-        let rest = joined (h .k - 1) (λ j. word (positionOf L s j)) in
+        let rest = joined (h .k - 1) (λ j. word (positionOf (parityOf L s) j)) in
         let k : h .k ≤ 16 = omega (arith, shelf-parts h ok .limits .k-most) in
         omega (
           arith,
@@ -73,7 +74,7 @@ module _ (h : Shelf) (ok : isShelf h ≡ true) (s : ℕ) (hs : s < stripes (layo
           length-append (decimal s ++ parity) rest,
           length-append (decimal s) parity,
           word-most (parityOf L s) (parity-lt L E s),
-          joined-most (h .k - 1) 13 (λ j. word (positionOf L s j)) (λ j l. word-most (positionOf L s j) (position-lt L E s j l)),
+          joined-most (h .k - 1) 13 (λ j. word (positionOf (parityOf L s) j)) (λ j l. word-most (positionOf (parityOf L s) j) (position-lt L E s j l)),
         )
 
   -- there is such a table, so this holds of the layout's line

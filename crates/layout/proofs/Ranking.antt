@@ -7,7 +7,8 @@ use lib.Arith.{digits-lt}
 use lib.ListN.{getD}
 use Rattle.design.specs.declared.Shelf.{Shelf}
 use Rattle.design.specs.Shelf.{isShelf}
-use Rattle.placement.specs.Layout.{layoutIn, tupleOf, parityOf, positionOf, diskOf, offsetOf, placeOf, splitOf}
+use Rattle.placement.specs.Slots.{positionOf}
+use Rattle.placement.specs.Layout.{layoutIn, tupleOf, parityOf, diskOf, offsetOf, placeOf, splitOf}
 use Rattle.placement.proofs.Even.{even-shelf}
 use Rattle.placement.proofs.Flat.{rank-before}
 use Rattle.placement.proofs.Position.{parity-lt, position-lt}
@@ -42,4 +43,4 @@ module _ (h : Shelf) (ok : isShelf h ≡ true) (ranks : List ℕ) (R : Ranked (h
       let E = even-shelf h ok in
       ap₂ (λ (x y : List ℕ). decimal s ++ x ++ y ++ lineEnd ∷ [])
       (word-is (parityOf L s) (parity-lt L E s))
-      (joined-ext (h .k - 1) (λ j. entryWord (h .table) ranks base (entry (positionOf L s j))) (λ j. placeWord L s (positionOf L s j)) (λ j l. word-is (positionOf L s j) (position-lt L E s j l)))
+      (joined-ext (h .k - 1) (λ j. entryWord (h .table) ranks base (entry (positionOf (parityOf L s) j))) (λ j. placeWord L s (positionOf (parityOf L s) j)) (λ j l. word-is (positionOf (parityOf L s) j) (position-lt L E s j l)))

@@ -10,7 +10,8 @@ use Rattle.design.specs.declared.Verdict.the-variants.{Accepted, Refused}
 use Rattle.design.specs.Refusals.{number}
 use Rattle.design.specs.Sheet.{opened}
 use Rattle.placement.specs.declared.fast.Place.{Place}
-use Rattle.placement.specs.Layout.{Layout, layoutIn, stripes, parityOf, positionOf, placeOf}
+use Rattle.placement.specs.Slots.{positionOf}
+use Rattle.placement.specs.Layout.{Layout, layoutIn, stripes, parityOf, placeOf}
 
 -- ---- bytes
 
@@ -71,7 +72,7 @@ placeWord L s p = spaced (placeText (placeOf L s p))
 
 -- a stripe's number, the parity place, the data places in address order
 unfoldable pub stripeLine : Layout → ℕ → List ℕ
-stripeLine L s = decimal s ++ placeWord L s (parityOf L s) ++ joined (L .design .k - 1) (λ j. placeWord L s (positionOf L s j)) ++ lineEnd ∷ []
+stripeLine L s = decimal s ++ placeWord L s (parityOf L s) ++ joined (L .design .k - 1) (λ j. placeWord L s (positionOf (parityOf L s) j)) ++ lineEnd ∷ []
 
 -- the lines of n stripes from `first` on
 unfoldable pub linesFrom : Layout → ℕ → ℕ → List ℕ

@@ -110,7 +110,7 @@ fn data(
 {
     let mut next = at;
     for j in 0..n {
-        let position = if j < parity { j } else { j + 1 };
+        let position = fast::position_of(parity, j);
         next = place(out, next, table, ranks, base, row + position);
     }
     next

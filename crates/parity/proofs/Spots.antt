@@ -6,7 +6,8 @@ use native.Mathlib.Nat.{mod-lt}
 use native.Mathlib.Omega.{arith}
 use Rattle.design.specs.declared.Shelf.{Shelf}
 use Rattle.design.specs.Shelf.{isShelf}
-use Rattle.placement.specs.Layout.{layoutIn, stripes, addresses, stripeOf, jOf, positionOf, diskOf, offsetOf}
+use Rattle.placement.specs.Slots.{positionOf}
+use Rattle.placement.specs.Layout.{layoutIn, stripes, addresses, stripeOf, jOf, parityOf, diskOf, offsetOf}
 use Rattle.placement.specs.Placed.{spotOf}
 use Rattle.placement.proofs.Even.{Even, even-shelf}
 use Rattle.placement.proofs.Stands.{j-lt, stripe-below}
@@ -31,7 +32,7 @@ module _ (h : Shelf) (ok : isShelf h ≡ true) (a : ℕ) (below : a < addresses 
   hj : j < h .k
   hj = omega (arith, j-lt (layoutIn h) E a)
 
-  here : positionIn h s j ≡ positionOf (layoutIn h) s j
+  here : positionIn h s j ≡ positionOf (parityOf (layoutIn h) s) j
   here = position-data h s j (j-lt (layoutIn h) E a)
 
   parity-lt : h .k - 1 < h .k

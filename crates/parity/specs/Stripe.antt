@@ -7,7 +7,8 @@ use lib.Dec.{ltb, eqb}
 use Rattle.design.specs.declared.Loss.{Loss}
 use Rattle.design.specs.declared.Loss.the-variants.{Nothing, Disk}
 use Rattle.design.specs.declared.Shelf.{Shelf}
-use Rattle.placement.specs.Layout.{layoutIn, offsets, parityOf, positionOf, diskOf, offsetOf, stripeAt, positionAt}
+use Rattle.placement.specs.Slots.{positionOf}
+use Rattle.placement.specs.Layout.{layoutIn, offsets, parityOf, diskOf, offsetOf, stripeAt, positionAt}
 use Rattle.parity.specs.Units.{zeros, unitAt, unitsOf, xorSum, isZero, put}
 
 abbrev pub unitSize : Shelf → ℕ
@@ -26,7 +27,7 @@ imageSize h = units h * unitSize h
 -- ---- where unit i of stripe s stands: its position, and its number in the image
 
 abbrev pub positionIn : Shelf → ℕ → ℕ → ℕ
-positionIn h s i = cond (ltb i (h .k - 1)) (positionOf (layoutIn h) s i) (parityOf (layoutIn h) s)
+positionIn h s i = cond (ltb i (h .k - 1)) (positionOf (parityOf (layoutIn h) s) i) (parityOf (layoutIn h) s)
 
 unfoldable pub unitIn : Shelf → ℕ → ℕ → ℕ
 unitIn h s i = diskOf (layoutIn h) s (positionIn h s i) * depth h + offsetOf (layoutIn h) s (positionIn h s i)

@@ -1,3 +1,4 @@
+pub mod Stepping
 pub mod Held
 pub mod Even
 pub mod Row

@@ -1,7 +1,7 @@
 -- Laws of the pass that ranks the entries: what the counts and the ranks hold after the first i entries. Assumes nothing.
-use mathlib.Core.Path.{_≡_, _∙_}
+use mathlib.Core.Path.{_≡_, sym, _∙_}
 use mathlib.Core.Logic.{_⊎_, inl, inr, _≢_}
-use mathlib.Core.Bool.{true, false}
+use mathlib.Core.Bool.{true, false, cond}
 use mathlib.Core.List.{List}
 use Prim.Native.Nat.{ℕ, _+_, _<_}
 use native.Mathlib.Omega.{arith}
@@ -12,8 +12,15 @@ use borrow.Author.Tests.{eqb-true, eqb-false}
 use Rattle.design.specs.Count.{count}
 use Rattle.design.proofs.Counting.{decided}
 use Rattle.design.proofs.Sums.{count-next}
-use Rattle.design.proofs.Tallies.{getD-raised}
 use Rattle.placement.proofs.Flat.{isDisk}
+
+-- entry i is raised by one
+getD-raised : (l : List ℕ) (i x : ℕ) → i < length l → getD (set l i (getD l i 0 + 1)) x 0 ≡ getD l x 0 + cond (eqb i x) 1 0
+getD-raised l i x h = go (decided (eqb i x))
+  where
+    go : (eqb i x ≡ true) ⊎ (eqb i x ≡ false) → getD (set l i (getD l i 0 + 1)) x 0 ≡ getD l x 0 + cond (eqb i x) 1 0
+    go (inl e) = rw (e, ← eqb-true i x e) (getD-set-same l i (getD l i 0 + 1) 0 h)
+    go (inr e) = rw e (getD-set-other l i x (getD l i 0 + 1) 0 (λ q. eqb-false i x e (sym q)) ∙ omega arith)
 
 -- how many entries are each disk
 abbrev pub Counted : List ℕ → ℕ → List ℕ → Type 0

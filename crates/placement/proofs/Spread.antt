@@ -17,11 +17,13 @@ use Rattle.design.proofs.Counting.{alike, count-ext, Nth}
 use Rattle.design.proofs.Sums.{sum-ext, sum-const, count-swap, count-unique}
 use Rattle.placement.specs.declared.LookUp.{LookUp}
 use Rattle.placement.specs.declared.LookUp.the-variants as LookUp
-use Rattle.placement.specs.Layout.{Layout, layoutIn, offsets, stripeOf, jOf, wOf, copyOf, tupleOf, parityOf, positionOf, diskOf, tupleAt, stripeAt, positionAt}
+use Rattle.placement.specs.Slots.{positionOf}
+use Rattle.placement.specs.Layout.{Layout, layoutIn, offsets, stripeOf, jOf, wOf, copyOf, tupleOf, parityOf, diskOf, tupleAt, stripeAt, positionAt}
 use Rattle.placement.specs.Placed.{spotOf, standsAt, lookedUp}
 use Rattle.placement.proofs.Held.{held-at}
+use Rattle.placement.proofs.Stepping.{position-not-parity}
 use Rattle.placement.proofs.Even.{Even, even-shelf}
-use Rattle.placement.proofs.Position.{parity-lt, position-lt, position-ne, position-inj}
+use Rattle.placement.proofs.Position.{parity-lt, position-lt, position-inj}
 use Rattle.placement.proofs.Row.{tuple-lt, copy-row}
 use Rattle.placement.proofs.Undo.{row-there, position-there}
 use Rattle.placement.proofs.Stands.{j-lt}
@@ -39,11 +41,11 @@ module _ (L : Layout) (E : Even L) where
   unfolding spotOf
   addresses-apart a a′ es ed =
       let s : ℕ = stripeOf L a in
-      let x : ℕ = positionOf L s (jOf L a) in
-      let y : ℕ = positionOf L s (jOf L a′) in
+      let x : ℕ = positionOf (parityOf L s) (jOf L a) in
+      let y : ℕ = positionOf (parityOf L s) (jOf L a′) in
       let hx : x < L .design .k = position-lt L E s (jOf L a) (j-lt L E a) in
       let hy : y < L .design .k = position-lt L E s (jOf L a′) (j-lt L E a′) in
-      let ed′ : diskOf L s x ≡ diskOf L s y = ed ∙ ap (λ (n : ℕ). diskOf L n (positionOf L n (jOf L a′))) (sym es) in
+      let ed′ : diskOf L s x ≡ diskOf L s y = ed ∙ ap (λ (n : ℕ). diskOf L n (positionOf (parityOf L n) (jOf L a′))) (sym es) in
       let ej : jOf L a ≡ jOf L a′ = position-inj L E s (jOf L a) (jOf L a′) (positions-apart s x y hx hy ed′) in
       sym (div-add-mod' a (L .design .k - 1)) ∙ ap₂ (λ (m n : ℕ). m * (L .design .k - 1) + n) es ej ∙ div-add-mod' a′ (L .design .k - 1)
 
@@ -52,8 +54,8 @@ module _ (L : Layout) (E : Even L) where
   unfolding spotOf
   parity-apart a e =
       let s : ℕ = stripeOf L a in
-      position-ne L E s (jOf L a)
-      (positions-apart s (positionOf L s (jOf L a)) (parityOf L s) (position-lt L E s (jOf L a) (j-lt L E a)) (parity-lt L E s) e)
+      position-not-parity (parityOf L s) (jOf L a)
+      (positions-apart s (positionOf (parityOf L s) (jOf L a)) (parityOf L s) (position-lt L E s (jOf L a) (j-lt L E a)) (parity-lt L E s) e)
 
 -- ---- the parity of the copies of a tuple
 

@@ -12,10 +12,12 @@ use borrow.Author.Tests.{eq-eqb, eqb-true, ne-eqb, eqb-false}
 use Rattle.design.proofs.Counting.{decided}
 use Rattle.placement.specs.declared.LookUp.{LookUp}
 use Rattle.placement.specs.declared.LookUp.the-variants as LookUp
-use Rattle.placement.specs.Layout.{Layout, stripes, addresses, offsets, stripeOf, jOf, parityOf, positionOf, diskOf, offsetOf, stripeAt, positionAt, addressOf}
+use Rattle.placement.specs.Slots.{positionOf, indexOf}
+use Rattle.placement.specs.Layout.{Layout, stripes, addresses, offsets, stripeOf, jOf, parityOf, diskOf, offsetOf, stripeAt, positionAt, addressOf}
 use Rattle.placement.specs.Placed.{spotOf, standsAt}
+use Rattle.placement.proofs.Stepping.{position-not-parity, index-of-position}
 use Rattle.placement.proofs.Even.{Even}
-use Rattle.placement.proofs.Position.{under, under-over, DataAt, data-at, parity-lt, position-lt, position-ne}
+use Rattle.placement.proofs.Position.{DataAt, data-at, parity-lt, position-lt}
 use Rattle.placement.proofs.Row.{disk-lt, offset-lt}
 use Rattle.placement.proofs.Undo.{stripe-back, position-back, position-there, stripe-there, disk-there, offset-there}
 
@@ -56,12 +58,12 @@ module _ (L : Layout) (E : Even L) where
       stands-parity L _ _ (stripe-back L E s (parityOf L s) l) (position-back L E s (parityOf L s) l) refl
 
   data-stands : (s j : ℕ) → j < L .design .k - 1
-      → standsAt L (diskOf L s (positionOf L s j)) (offsetOf L s (positionOf L s j)) ≡ LookUp.Data s (s * (L .design .k - 1) + j)
+      → standsAt L (diskOf L s (positionOf (parityOf L s) j)) (offsetOf L s (positionOf (parityOf L s) j)) ≡ LookUp.Data s (s * (L .design .k - 1) + j)
   data-stands s j h =
-      let x : ℕ = positionOf L s j in
+      let x : ℕ = positionOf (parityOf L s) j in
       let l : x < L .design .k = position-lt L E s j h in
-      stands-data L _ _ (stripe-back L E s x l) (position-back L E s x l) (position-ne L E s j)
-      ∙ ap (λ (i : ℕ). LookUp.Data s (s * (L .design .k - 1) + i)) (under-over (parityOf L s) j)
+      stands-data L _ _ (stripe-back L E s x l) (position-back L E s x l) (position-not-parity (parityOf L s) j)
+      ∙ ap (λ (i : ℕ). LookUp.Data s (s * (L .design .k - 1) + i)) (index-of-position (parityOf L s) j)
 
   -- ---- the place of an address
 
@@ -119,13 +121,13 @@ module _ (L : Layout) (E : Even L) where
     address = addressOf L (stripeAt L d o) (positionAt L d o)
 
     module _ (ne : positionAt L d o ≢ parityOf L (stripeAt L d o)) where
-      found : DataAt L (stripeAt L d o) (positionAt L d o) (under (parityOf L (stripeAt L d o)) (positionAt L d o))
+      found : DataAt L (stripeAt L d o) (positionAt L d o) (indexOf (parityOf L (stripeAt L d o)) (positionAt L d o))
       found = data-at L E (stripeAt L d o) (positionAt L d o) (position-there L E d o hd) ne
 
       found-stripe : stripeOf L address ≡ stripeAt L d o
       found-stripe = digits-div (stripeAt L d o) (found .below)
 
-      found-position : positionOf L (stripeOf L address) (jOf L address) ≡ positionAt L d o
+      found-position : positionOf (parityOf L (stripeOf L address)) (jOf L address) ≡ positionAt L d o
       found-position = rw (found-stripe, digits-mod (stripeAt L d o) (found .below)) (found .stands)
 
       found-data : PlaceOf L address d o

@@ -1,14 +1,14 @@
 -- Document 01, "Where a unit stands": the place of each position of a stripe, and which position stands at a place. A layout is
 -- any design, with r and T; a shelf's is read off its table.
-use mathlib.Core.Bool.{cond}
 use Prim.Native.Nat.{ℕ, _+_, _-_, _*_, _/_, _%_, _<_}
-use lib.Dec.{ltb, eqb}
+use lib.Dec.{eqb}
 use Rattle.design.specs.declared.Shelf.{Shelf}
 use Rattle.placement.specs.declared.fast.Split.{Split}
 use Rattle.placement.specs.declared.fast.Place.{Place}
 use Rattle.design.specs.Count.{nth}
 use Rattle.design.specs.Tuples.{Design, holds, before}
 use Rattle.design.specs.Shelf.{designIn}
+use Rattle.placement.specs.Slots.{indexOf}
 
 -- each disk stands in r tuples of the design, and there are T full tables
 pub record Layout : Type 0 where
@@ -49,12 +49,9 @@ copyOf L s = wOf L s / L .design .b
 abbrev pub tupleOf : Layout → ℕ → ℕ
 tupleOf L s = wOf L s % L .design .b
 
--- the parity's position in stripe s, and that of data j
+-- the parity's position in stripe s
 abbrev pub parityOf : Layout → ℕ → ℕ
 parityOf L s = L .design .k - 1 - copyOf L s
-
-abbrev pub positionOf : Layout → ℕ → ℕ → ℕ
-positionOf L s j = cond (ltb j (parityOf L s)) j (j + 1)
 
 -- the split of a stripe into these, where there are b tuples of k
 unfoldable pub splitOf : ℕ → ℕ → ℕ → Split
@@ -99,4 +96,4 @@ positionAt L d o = nth (λ p. eqb (L .design .disk (tupleAt L d o) p) d) (L .des
 
 -- the address of the data at position p of stripe s
 abbrev pub addressOf : Layout → ℕ → ℕ → ℕ
-addressOf L s p = s * (L .design .k - 1) + cond (ltb p (parityOf L s)) p (p - 1)
+addressOf L s p = s * (L .design .k - 1) + indexOf (parityOf L s) p

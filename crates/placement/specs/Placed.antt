@@ -16,7 +16,8 @@ use Rattle.placement.specs.declared.Placing.{Placing}
 use Rattle.placement.specs.declared.Placing.the-variants as Placing
 use Rattle.placement.specs.declared.LookUp.{LookUp}
 use Rattle.placement.specs.declared.LookUp.the-variants as LookUp
-use Rattle.placement.specs.Layout.{Layout, layoutIn, addresses, offsets, stripeOf, jOf, parityOf, positionOf, diskOf, offsetOf, stripeAt, positionAt, addressOf}
+use Rattle.placement.specs.Slots.{positionOf}
+use Rattle.placement.specs.Layout.{Layout, layoutIn, addresses, offsets, stripeOf, jOf, parityOf, diskOf, offsetOf, stripeAt, positionAt, addressOf}
 
 abbrev pub rangeRule : Bool → Rule
 rangeRule kept = record { refusal = OutOfRange; kept = kept }
@@ -26,7 +27,7 @@ rangeRule kept = record { refusal = OutOfRange; kept = kept }
 unfoldable pub spotOf : Layout → ℕ → Spot
 spotOf L a =
     let s : ℕ = stripeOf L a in
-    let p : ℕ = positionOf L s (jOf L a) in
+    let p : ℕ = positionOf (parityOf L s) (jOf L a) in
     record {
       disk = diskOf L s p;
       offset = offsetOf L s p;

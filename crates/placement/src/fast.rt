@@ -11,6 +11,8 @@ ghost use Rattle.placement.specs.Placed.{spotOf, standsAt};
 use crate::LookUp;
 use crate::Spot;
 use crate::seek;
+pub use crate::slots::index_of;
+pub use crate::slots::position_of;
 use design::Shelf;
 use design::Table;
 
@@ -98,7 +100,7 @@ pub fn spot(shelf: Shelf, address: usize) -> Spot
     let stripe = address / (k - 1);
     let j = address % (k - 1);
     let at = split_of(k, shelf.b, stripe);
-    let position = if j < at.parity { j } else { j + 1 };
+    let position = position_of(at.parity, j);
     let data = place_in(shelf, at, position);
     let parity = place_in(shelf, at, at.parity);
     Spot {
@@ -125,11 +127,7 @@ pub fn stands_at(shelf: Shelf, disk: usize, offset: usize) -> LookUp
     if position == parity {
         return LookUp::Parity(stripe);
     }
-    let j = if position < parity {
-        position
-    } else {
-        position - 1
-    };
+    let j = index_of(parity, position);
     let address = stripe * (k - 1) + j;
     LookUp::Data { stripe, address }
 }

@@ -12,6 +12,7 @@ use design::Verdict;
 
 pub mod fast;
 mod seek;
+mod slots;
 
 // The place of an address and of its stripe's parity: one record of a run.
 pub struct Spot {

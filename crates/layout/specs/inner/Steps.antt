@@ -1,13 +1,13 @@
 -- What the code's steps do, said of the numbers that they take: a text put into the buffer, and a stripe's line by a table of
 -- ranks.
 use mathlib.Core.Path.{_≡_}
-use mathlib.Core.Bool.{cond}
 use mathlib.Core.List.{List, [], _∷_, _++_}
 use Prim.Native.Nat.{ℕ, _+_, _-_, _*_, _≤_, _<_}
-use lib.Dec.{ltb, eqb}
+use lib.Dec.{eqb}
 use lib.ListN.{length, getD, take, drop}
 use Rattle.design.specs.Count.{count}
 use Rattle.placement.specs.declared.fast.Split.{Split}
+use Rattle.placement.specs.Slots.{positionOf}
 use Rattle.placement.specs.Layout.{splitOf}
 use Rattle.layout.specs.Text.{lineEnd, colon, decimal, spaced, joined}
 
@@ -38,7 +38,7 @@ entryWord table ranks base entry = spaced (decimal (getD table entry 0)) ++ colo
 
 -- the data places of a tuple of k whose entries start at `row`
 unfoldable pub dataWords : List ℕ → List ℕ → ℕ → ℕ → ℕ → ℕ → List ℕ
-dataWords table ranks base row parity n = joined n (λ j. entryWord table ranks base (row + cond (ltb j parity) j (j + 1)))
+dataWords table ranks base row parity n = joined n (λ j. entryWord table ranks base (row + positionOf parity j))
 
 -- the units of a disk before those of a copy
 abbrev pub baseOf : ℕ → ℕ → Split → ℕ

@@ -7,7 +7,6 @@ use mathlib.Core.Bool.{true}
 use Prim.Native.Nat.{_*_}
 use native.Mathlib.Nat.{mul-le-mul-left}
 use native.Mathlib.Omega.{arith}
-use lib.ListN.{getD}
 use Rattle.design.specs.Tuples.{Design, before, shared, disksBelow, noneTwice, disksEven, pairsEven}
 use Rattle.design.specs.Sheet.{Limits, fillingZero, openedBy}
 use Rattle.design.proofs.Tests.{limits}
@@ -85,61 +84,73 @@ tally-requires c κs =
     let s = start e in
     let l = within s in
     let t = e .before .before .before .table-of .ensures in (
-      (l .places, omega (arith, l), omega (arith, l, mul-le-mul-left (s .args .b) (l .k-least))),
+      (l .places, omega (arith, l, mul-le-mul-left (s .args .b) (l .k-least))),
       (
         below-side _ _ _ _ _ t (l .v-most) (below e),
         different-read _ _ _ _ _ t (once (c .before .before .before)),
       ),
     )
 
--- what was counted, and the test of the disks
+-- what was counted, and the tests of the disks and of the pairs
 
-r-counted : (c : tie.After-tally) → getD (c .tally .result) 0 0 ≡ (let D = design (start (first (c .before .before))) in before D (D .b) 0)
+abbrev from-counts : tie.After-count-of → tie.Else3
+from-counts c = c .before .before .before .before
+
+r-counted : (c : tie.After-count-of) → c .count-of .result ≡ (let D = design (start (first (from-counts c))) in before D (D .b) 0)
 r-counted c =
-    let e = first (c .before .before) in
-    r-read _ _ _ _ _ (e .before .before .before .table-of .ensures) (within (start e) .v-most) (c .tally .result) (c .tally .ensures)
-
-lambda-counted : (c : tie.After-tally) → getD (c .tally .result) 64 0 ≡ (let D = design (start (first (c .before .before))) in shared D (D .b) 1 0)
-lambda-counted c =
-    let e = first (c .before .before) in
-    lambda-read _ _ _ _ _ (e .before .before .before .table-of .ensures) (within (start e) .v-most) (c .tally .result) (c .tally .ensures)
-
-disks-tested : (c : tie.After-disks-even) → (let D = design (start (first (c .before .before .before .before))) in disksEven D (before D (D .b) 0)) ≡ c .disks-even .result
-disks-tested c =
     let n = c .before .before in
-    let e = first (n .before .before) in
-    ap (disksEven (design (start e))) (sym (r-counted n))
-    ∙ sym (disks-read _ _ _ _ _ (e .before .before .before .table-of .ensures) (within (start e) .v-most) (n .tally .result) (n .tally .ensures) _ (c .disks-even .ensures))
+    let e = first (from-counts c) in
+    c .count-of .ensures ∙ r-read _ _ _ _ _ (e .before .before .before .table-of .ensures) (within (start e) .v-most) (n .tally .result) (n .tally .ensures)
 
 disks-even-requires : tie.Need-disks-even-requires
-disks-even-requires c κs = within (start (first (c .before .before .before))) .v-most
+disks-even-requires c κs = within (start (first (from-counts (c .before)))) .v-most
+
+disks-tested : (c : tie.After-disks-even) → (let D = design (start (first (from-counts (c .before .before)))) in disksEven D (before D (D .b) 0)) ≡ c .disks-even .result
+disks-tested c =
+    let r = c .before .before in
+    let n = r .before .before in
+    let e = first (from-counts r) in
+    ap (disksEven (design (start e))) (sym (r-counted r))
+    ∙ sym (disks-read _ _ _ _ _ (e .before .before .before .table-of .ensures) (within (start e) .v-most) (n .tally .result) (n .tally .ensures) _ (c .disks-even .ensures))
 
 returns-4 : tie.Need-returns-4
 returns-4 c =
     let d = c .before .before in
-    let z = d .before .before .before .before in
+    let z = from-counts (d .before .before) in
     c .refused4 .ensures
     ∙ disks-uneven _ _ _ _ _ _ (start (first z) .pre) (below (first z)) (once (z .before .before)) (zero z) (disks-tested d ∙ not-true _ (c .before .if4 .taken))
 
-even : (c : tie.Else4) → let D = design (start (first (c .before .before .before .before .before))) in disksEven D (before D (D .b) 0) ≡ true
+abbrev from-even : tie.Else4 → tie.Else3
+from-even c = from-counts (c .before .before .before)
+
+even : (c : tie.Else4) → let D = design (start (first (from-even c))) in disksEven D (before D (D .b) 0) ≡ true
 even c = disks-tested (c .before) ∙ not-false _ (c .if4 .left)
 
+lambda-counted : (c : tie.After-count-of2) → c .count-of2 .result ≡ (let D = design (start (first (from-even (c .before .before)))) in shared D (D .b) 1 0)
+lambda-counted c =
+    let f = c .before .before in
+    let n = f .before .before .before .before .before in
+    let e = first (from-even f) in
+    c .count-of2 .ensures ∙ lambda-read _ _ _ _ _ (e .before .before .before .table-of .ensures) (within (start e) .v-most) (n .tally .result) (n .tally .ensures)
+
 pairs-even-requires : tie.Need-pairs-even-requires
-pairs-even-requires c κs = within (start (first (c .before .before .before .before .before .before))) .v-most
+pairs-even-requires c κs = within (start (first (from-even (c .before .before .before)))) .v-most
 
 pairs-tested : (c : tie.After-pairs-even)
-    → (let D = design (start (first (c .before .before .before .before .before .before .before))) in pairsEven D (shared D (D .b) 1 0)) ≡ c .pairs-even .result
+    → (let D = design (start (first (from-even (c .before .before .before .before)))) in pairsEven D (shared D (D .b) 1 0)) ≡ c .pairs-even .result
 pairs-tested c =
-    let n = c .before .before .before .before .before in
-    let e = first (n .before .before) in
-    ap (pairsEven (design (start e))) (sym (lambda-counted n))
+    let l = c .before .before in
+    let f = l .before .before in
+    let n = f .before .before .before .before .before in
+    let e = first (from-even f) in
+    ap (pairsEven (design (start e))) (sym (lambda-counted l))
     ∙ sym (pairs-read _ _ _ _ _ (e .before .before .before .table-of .ensures) (within (start e) .v-most) (n .tally .result) (n .tally .ensures) _ (c .pairs-even .ensures))
 
 returns-5 : tie.Need-returns-5
 returns-5 c =
     let d = c .before .before in
-    let f = d .before .before in
-    let z = f .before .before .before .before .before in
+    let f = d .before .before .before .before in
+    let z = from-even f in
     c .refused5 .ensures
     ∙ pairs-uneven _ _ _ _ _ _ (start (first z) .pre) (below (first z)) (once (z .before .before)) (zero z) (even f) (pairs-tested d ∙ not-true _ (c .before .if5 .taken))
 
@@ -147,11 +158,11 @@ returns-6 : tie.Need-returns-6
 unfolding openedBy
 returns-6 c =
     let d = c .before in
-    let f = d .before .before in
-    let n = f .before .before .before in
-    let z = n .before .before in
+    let l = d .before .before in
+    let f = l .before .before in
+    let z = from-even f in
     let e = first z in
-    rw (shelf-read _ _ _ _ _ _ (start e .pre) (e .before .before .before .table-of .ensures) (r-counted n) (lambda-counted n))
+    rw (shelf-read _ _ _ _ _ _ (start e .pre) (e .before .before .before .table-of .ensures) (r-counted (f .before .before .before)) (lambda-counted l))
     (accepted _ _ _ _ _ _ (start e .pre) (below e) (once (z .before .before)) (zero z) (even f) (pairs-tested d ∙ not-false _ (c .if5 .left)))
 
 pub open-table-spec : {M : Type 1} → statement M
@@ -170,13 +181,11 @@ open-table-spec =
     (λ c κs. search needs)
     returns-3
     tally-requires
-    (λ c. search needs)
-    (λ c. search needs)
+    (λ c κs. search needs)
     disks-even-requires
     (λ c κs. search needs)
     returns-4
-    (λ c. search needs)
-    (λ c. search needs)
+    (λ c κs. search needs)
     pairs-even-requires
     (λ c κs. search needs)
     returns-5

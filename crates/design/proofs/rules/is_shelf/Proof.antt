@@ -104,7 +104,7 @@ tally-requires c κs =
     let h = shelf (from-twice t) in
     let l = within (from-twice t) in
     let below = below-at (h .v) (h .k) (h .b) (h .table) (kept (below-is (t .before .before .before)) (t .before .before .if3 .left)) in (
-      (l .places, omega arith, omega (arith, mul-le-mul-left (h .b) (l .k-least))),
+      (l .places, omega (arith, mul-le-mul-left (h .b) (l .k-least))),
       (λ i m. omega (arith, below i m), twice (designIn h) .0 (kept (twice-is t) (c .before .if4 .left))),
     )
 

@@ -12,7 +12,7 @@ use Rattle.design.proofs.tally.tally.Statement.{statement}
 use Rattle.design.proofs.tally.tally.Tie as tie
 
 abbrev Inv-loop : tie.InvT-loop
-Inv-loop table k b counts₀ q₀ counts q = (q ≤ b) × (length counts ≡ 4096) × Tallied (inTable 0 k b table) q counts
+Inv-loop table k b counts₀ q₀ counts q = (q ≤ b) × (length counts ≡ 704) × Tallied (inTable 0 k b table) q counts
 
 abbrev μ-loop : tie.MeasureT-loop
 μ-loop table k b counts₀ q₀ counts q = b - q
@@ -22,7 +22,7 @@ within : (c : tie.In-loop Inv-loop μ-loop) → c .before .loop .q * c .before .
 within c = omega (arith, mul-le-mul-right (c .before .before .args .k) (c .loop-test .taken))
 
 loop-holds : tie.Need-loop-holds Inv-loop μ-loop
-loop-holds c = (omega arith, length-replicate {A = ℕ} 4096 0, tallied-none _)
+loop-holds c = (omega arith, length-replicate {A = ℕ} 704 0, tallied-none _)
 
 mul-tally-tuple : tie.Need-mul-tally-tuple Inv-loop μ-loop
 mul-tally-tuple c = omega (arith, within c)
@@ -32,12 +32,12 @@ tally-tuple-requires c κs =
     let a = c .before .before in
     let s = a .before in
     let h = within (c .before) in (
-      (omega arith, s .pre .0 .1, a .loop .inv .1),
+      (omega arith, a .loop .inv .1),
       (
         λ p l. s .pre .1 .0 (a .loop .q * s .args .k + p) (omega arith),
         (
           s .pre .1 .1 (a .loop .q) (c .before .loop-test .taken),
-          λ d e hd he. omega (arith, a .loop .inv .2 d e hd he, shared-le (inTable 0 (s .args .k) (s .args .b) (s .args .table .now)) (a .loop .q) d e),
+          λ d e hd he. omega (arith, a .loop .inv .2 d e hd, shared-le (inTable 0 (s .args .k) (s .args .b) (s .args .table .now)) (a .loop .q) d e),
         ),
       ),
     )

@@ -1,12 +1,10 @@
 -- `layout::write::data` meets its contract. The loop's invariant: the first j places are written. Assumes nothing.
 use mathlib.Core.Path.{_≡_}
-use mathlib.Core.Logic.{⊎-elim}
-use mathlib.Core.Bool.{cond}
 use mathlib.Core.List.{List}
 use Prim.Native.Nat.{ℕ, _+_, _-_, _≤_, _<_}
 use native.Mathlib.Omega.{arith}
-use lib.Dec.{ltb}
-use borrow.Author.Tests.{lt-ltb, le-ltb}
+use Rattle.placement.specs.Slots.{positionOf}
+use Rattle.placement.proofs.Stepping.{position-below}
 use Rattle.layout.specs.Text.{joined}
 use Rattle.layout.specs.inner.Steps.{Fits, Put, entryWord, dataWords}
 use Rattle.layout.proofs.Puts.{kept-length, put-nothing}
@@ -23,7 +21,7 @@ abbrev μ-loop : tie.MeasureT-loop
 -- ---- the words, and that they fit
 
 abbrev word : tie.Start Inv-loop μ-loop → ℕ → List ℕ
-word s j = entryWord (s .args .table .now) (s .args .ranks .now) (s .args .base) (s .args .row + cond (ltb j (s .args .parity)) j (j + 1))
+word s j = entryWord (s .args .table .now) (s .args .ranks .now) (s .args .base) (s .args .row + positionOf (s .args .parity) j)
 
 fits : (s : tie.Start Inv-loop μ-loop) (j : ℕ) → j ≤ s .args .n → Fits (s .args .out .now) (s .args .at) (joined j (word s))
 unfolding dataWords
@@ -31,53 +29,47 @@ fits s j l = fewer-fit (word s) l (s .pre .0)
 
 -- ---- one turn
 
-abbrev start : tie.Joined1 Inv-loop μ-loop → tie.Start Inv-loop μ-loop
+abbrev start : tie.After-position-of Inv-loop μ-loop → tie.Start Inv-loop μ-loop
 start c = c .before .before .before .before
-
-position-is : (c : tie.Joined1 Inv-loop μ-loop) → c .if1 .position ≡ cond (ltb (c .before .before .loop .j) (start c .args .parity)) (c .before .before .loop .j) (c .before .before .loop .j + 1)
-position-is c =
-    let j : ℕ = c .before .before .loop .j in
-    let parity : ℕ = start c .args .parity in
-    ⊎-elim (λ w. rw (lt-ltb j parity (w .0 .taken)) (w .1)) (λ w. rw (le-ltb j parity (w .0 .left)) (w .1)) (c .if1 .came)
 
 loop-holds : tie.Need-loop-holds Inv-loop μ-loop
 unfolding dataWords joined
 loop-holds c = (omega arith, put-nothing)
 
-add-position : tie.Need-add-position Inv-loop μ-loop
-add-position c = omega (arith, c .before .loop-test .taken)
+position-of-requires : tie.Need-position-of-requires Inv-loop μ-loop
+position-of-requires c κs = let s = c .before .before .before in omega (arith, s .pre .1 .1, c .loop-test .taken)
 
-position-lt : (c : tie.Joined1 Inv-loop μ-loop) → start c .args .row + c .if1 .position < 2048
+position-lt : (c : tie.After-position-of Inv-loop μ-loop) → start c .args .row + c .position-of .result < 2048
 position-lt c =
     let s = start c in
-    let l : c .if1 .position ≤ c .before .before .loop .j + 1 = ⊎-elim (λ w. omega (arith, w .1)) (λ w. omega (arith, w .1)) (c .if1 .came) in
-    omega (arith, s .pre .1 .1, c .before .loop-test .taken)
+    let l = c .before .before .loop in
+    omega (arith, s .pre .1 .1, c .before .loop-test .taken, c .position-of .ensures, position-below (s .args .parity) (l .j) (s .args .n) (c .before .loop-test .taken))
 
 add-place : tie.Need-add-place Inv-loop μ-loop
-add-place c = omega (arith, position-lt (c .before .before))
+add-place c = omega (arith, position-lt (c .before))
 
 place-requires : tie.Need-place-requires Inv-loop μ-loop
 unfolding dataWords
 place-requires c κs =
-    let t = c .before .before in
+    let t = c .before in
     let l = t .before .before .loop in
     let more = fits (start t) (l .j + 1) (omega (arith, t .before .loop-test .taken)) in
-    (rw (position-is t) (next-fits (word (start t)) (l .j) more (l .inv .1)), (start t .pre .1 .0, position-lt t))
+    (rw (t .position-of .ensures) (next-fits (word (start t)) (l .j) more (l .inv .1)), (start t .pre .1 .0, position-lt t))
 
 add-j : tie.Need-add-j Inv-loop μ-loop
-add-j c = omega (arith, c .before .before .before .before .before .before .loop-test .taken)
+add-j c = omega (arith, c .before .before .before .before .before .loop-test .taken)
 
 loop-less : tie.Need-loop-less Inv-loop μ-loop
-loop-less c = omega (arith, c .before .before .before .before .before .before .loop-test .taken)
+loop-less c = omega (arith, c .before .before .before .before .before .loop-test .taken)
 
 loop-again : tie.Need-loop-again Inv-loop μ-loop
 unfolding dataWords
 loop-again c =
-    let t = c .before .before .before .before .before in
+    let t = c .before .before .before .before in
     let l = t .before .before .loop in
     let more = fits (start t) (l .j + 1) (omega (arith, t .before .loop-test .taken)) in (
       omega (arith, t .before .loop-test .taken),
-      put-next (word (start t)) (l .j) more (l .inv .1) (rw (position-is t) at (c .before .before .place .ensures)),
+      put-next (word (start t)) (l .j) more (l .inv .1) (rw (t .position-of .ensures) at (c .before .before .place .ensures)),
     )
 
 same-length : tie.Need-same-length Inv-loop μ-loop
@@ -99,7 +91,7 @@ data-spec =
     Inv-loop
     μ-loop
     loop-holds
-    add-position
+    position-of-requires
     add-place
     place-requires
     add-j

@@ -1,13 +1,14 @@
 -- `placement::fast::spot` meets its contract: the places are those of the data's position and of the parity's. Assumes nothing.
-use mathlib.Core.Path.{_≡_, sym, ap, _∙_}
-use mathlib.Core.Logic.{⊎-elim}
+use mathlib.Core.Path.{_≡_, ap, _∙_}
 use Prim.Native.Nat.{ℕ}
 use native.Mathlib.Omega.{arith}
-use Rattle.placement.specs.Layout.{Layout, layoutIn, stripeOf, jOf, parityOf, positionOf, SplitIn, placeOf}
+use Rattle.placement.specs.Slots.{positionOf}
+use Rattle.placement.specs.Layout.{Layout, layoutIn, stripeOf, jOf, parityOf, SplitIn, placeOf}
 use Rattle.placement.specs.Placed.{spotOf}
 use Rattle.placement.proofs.Even.{Even, even-shelf}
-use Rattle.placement.proofs.Position.{over-left, over-right, parity-lt, position-lt}
+use Rattle.placement.proofs.Position.{parity-lt, position-lt}
 use Rattle.placement.proofs.Stands.{j-lt, stripe-below}
+use Rattle.placement.proofs.Bounds.{bounds}
 use Rattle.placement.proofs.Splits.{split-asks, split-of-in, split-parity, split-place}
 use Rattle.placement.proofs.fast.spot.Statement.{statement}
 use Rattle.placement.proofs.fast.spot.Tie as tie
@@ -36,15 +37,11 @@ split-is c =
 parity-is : (c : tie.After-split-of) → c .split-of .result .parity ≡ parityOf (L (c .before)) (stripe (c .before))
 parity-is c = split-parity (L (c .before)) (stripe (c .before)) (c .split-of .ensures)
 
-abbrev start : tie.Joined1 → tie.Start
-start c = c .before .before .before
+abbrev start : tie.After-position-of → tie.Start
+start c = c .before .before
 
-position-is : (c : tie.Joined1) → c .if1 .position ≡ positionOf (L (start c)) (stripe (start c)) (j (start c))
-position-is c =
-    let s = start c in
-    let p : ℕ = parityOf (L s) (stripe s) in
-    let e : c .before .before .split-of .result .parity ≡ p = parity-is (c .before .before) in
-    ⊎-elim (λ w. w .1 ∙ sym (over-left p (j s) (omega (arith, w .0 .taken)))) (λ w. w .1 ∙ sym (over-right p (j s) (omega (arith, w .0 .left)))) (c .if1 .came)
+position-is : (c : tie.After-position-of) → c .position-of .result ≡ positionOf (parityOf (L (start c)) (stripe (start c))) (j (start c))
+position-is c = c .position-of .ensures ∙ ap (λ (p : ℕ). positionOf p (j (start c))) (parity-is (c .before))
 
 -- ---- the needs
 
@@ -63,28 +60,28 @@ rem-j c = omega (arith, E c .k-least)
 split-of-requires : tie.Need-split-of-requires
 split-of-requires c κs = split-asks (c .args .shelf) (c .pre .0)
 
-add-position : tie.Need-add-position
-add-position c = let s = c .before .before .before in omega (arith, j-lt (L s) (E s) (s .args .address))
+position-of-requires : tie.Need-position-of-requires
+position-of-requires c κs = let s = c .before in omega (arith, j-lt (L s) (E s) (s .args .address), bounds (s .args .shelf) (s .pre .0) .addresses)
 
 place-in-requires : tie.Need-place-in-requires
 place-in-requires c κs =
     let s = start c in
-    (s .pre .0, split-is (c .before .before), rw (position-is c) (position-lt (L s) (E s) (stripe s) (j s) (j-lt (L s) (E s) (s .args .address))))
+    (s .pre .0, split-is (c .before), rw (position-is c) (position-lt (L s) (E s) (stripe s) (j s) (j-lt (L s) (E s) (s .args .address))))
 
 place-in-requires-2 : tie.Need-place-in-requires-2
 place-in-requires-2 c κs =
     let s = start (c .before) in
-    let at = c .before .before .before in
+    let at = c .before .before in
     (s .pre .0, split-is at, rw (parity-is at) (parity-lt (L s) (E s) (stripe s)))
 
 returns : tie.Need-returns
 unfolding spotOf placeOf
 returns c =
-    let joined = c .before .before in
-    let s = start joined in
-    let split = joined .before .before .split-of .ensures in
-    let unit = split-place (L s) (stripe s) _ split (c .before .place-in .ensures) ∙ ap (placeOf (L s) (stripe s)) (position-is joined) in
-    let parity = split-place (L s) (stripe s) _ split (c .place-in2 .ensures) ∙ ap (placeOf (L s) (stripe s)) (parity-is (joined .before .before)) in
+    let found = c .before .before in
+    let s = start found in
+    let split = found .before .split-of .ensures in
+    let unit = split-place (L s) (stripe s) _ split (c .before .place-in .ensures) ∙ ap (placeOf (L s) (stripe s)) (position-is found) in
+    let parity = split-place (L s) (stripe s) _ split (c .place-in2 .ensures) ∙ ap (placeOf (L s) (stripe s)) (parity-is (found .before)) in
     rw (unit, parity)
 
 pub spot-spec : {M : Type 1} → statement M
@@ -96,7 +93,7 @@ spot-spec =
     sub-j
     rem-j
     split-of-requires
-    add-position
+    position-of-requires
     place-in-requires
     place-in-requires-2
     returns)

@@ -1,16 +1,16 @@
 -- `placement::fast::stands_at` meets its contract: the entry that is found gives the tuple and the position. Assumes nothing.
 use mathlib.Core.Path.{_≡_, sym, ap, _∙_}
-use mathlib.Core.Logic.{⊎-elim, _≢_}
+use mathlib.Core.Logic.{_≢_}
 use Prim.Native.Nat.{ℕ, _+_, _-_, _*_, _/_, _%_, _<_}
 use native.Mathlib.Nat.{mod-lt}
 use native.Mathlib.Omega.{arith}
 use lib.Arith.{digits-lt}
-use borrow.Author.Needs.{needs}
 use Rattle.design.proofs.ShelfTests.{shelf-parts}
 use Rattle.placement.specs.declared.LookUp.the-variants as LookUp
+use Rattle.placement.specs.Slots.{indexOf}
 use Rattle.placement.specs.Layout.{Layout, layoutIn, stripes, addresses, parityOf, stripeAt, positionAt}
 use Rattle.placement.proofs.Even.{Even, even-shelf}
-use Rattle.placement.proofs.Position.{under, under-left, under-right, data-at}
+use Rattle.placement.proofs.Position.{data-at}
 use Rattle.placement.proofs.Undo.{stripe-there}
 use Rattle.placement.proofs.Stands.{stands-parity, stands-data}
 use Rattle.placement.proofs.Bounds.{bounds}
@@ -53,26 +53,24 @@ stripe-lt c =
 parity-is : (c : tie.After-split-of) → c .split-of .result .parity ≡ parityOf (L (start (c .before))) (stripe (c .before))
 parity-is c = split-parity (L (start (c .before))) (stripe (c .before)) (c .split-of .ensures)
 
-abbrev entry : tie.Joined2 → tie.After-nth
+abbrev entry : tie.After-index-of → tie.After-nth
 entry c = c .before .before .before
 
-abbrev parity : tie.Joined2 → ℕ
+abbrev parity : tie.After-index-of → ℕ
 parity c = parityOf (L (start (entry c))) (stripe (entry c))
 
-other : (c : tie.Joined2) → position (entry c) ≢ parity c
+other : (c : tie.After-index-of) → position (entry c) ≢ parity c
 other c e = c .before .if1 .left (e ∙ sym (parity-is (c .before .before)))
 
-j-is : (c : tie.Joined2) → c .if2 .j ≡ under (parity c) (position (entry c))
-j-is c =
-    let e : c .before .before .split-of .result .parity ≡ parity c = parity-is (c .before .before) in
-    ⊎-elim (λ w. w .1 ∙ sym (under-left (parity c) _ (omega (arith, w .0 .taken)))) (λ w. w .1 ∙ sym (under-right (parity c) _ (omega (arith, w .0 .left)))) (c .if2 .came)
+j-is : (c : tie.After-index-of) → c .index-of .result ≡ indexOf (parity c) (position (entry c))
+j-is c = c .index-of .ensures ∙ ap (λ (p : ℕ). indexOf p (position (entry c))) (parity-is (c .before .before))
 
-address-lt : (c : tie.Joined2) → stripe (entry c) * (start (entry c) .args .shelf .k - 1) + c .if2 .j < addresses (L (start (entry c)))
+address-lt : (c : tie.After-index-of) → stripe (entry c) * (start (entry c) .args .shelf .k - 1) + c .index-of .result < addresses (L (start (entry c)))
 address-lt c =
     let n = entry c in
     let s = start n in
     let few : position n < s .args .shelf .k = mod-lt (n .nth .result) (omega (arith, E s .k-least)) in
-    let j-lt : c .if2 .j < s .args .shelf .k - 1 = omega (arith, j-is c, data-at (L s) (E s) (stripe n) (position n) few (other c) .below) in
+    let j-lt : c .index-of .result < s .args .shelf .k - 1 = omega (arith, j-is c, data-at (L s) (E s) (stripe n) (position n) few (other c) .below) in
     digits-lt (stripe-lt n) j-lt
 
 -- ---- the needs
@@ -114,6 +112,9 @@ returns c =
     let n = c .before .before in
     sym (stands-parity (L (start n)) _ _ (stripe-is n) (position-is n) (c .if1 .taken ∙ parity-is (c .before)))
 
+index-of-requires : tie.Need-index-of-requires
+index-of-requires c κs = c .if1 .left
+
 sub-address : tie.Need-sub-address
 sub-address c = omega (arith, E (start (c .before .before .before)) .k-least)
 
@@ -121,14 +122,13 @@ mul-address : tie.Need-mul-address
 mul-address c = omega (arith, address-lt c, bounds _ (start (c .before .before .before) .pre .0) .addresses)
 
 add-address : tie.Need-add-address
-add-address c = omega (arith, address-lt (c .before), bounds _ (start (c .before .before .before .before) .pre .0) .addresses)
+add-address c = omega (arith, address-lt c, bounds _ (start (c .before .before .before) .pre .0) .addresses)
 
 returns-2 : tie.Need-returns-2
 returns-2 c =
-    let d = c .before in
-    let n = d .before .before .before in
-    ap (λ (j : ℕ). LookUp.Data (stripe n) (stripe n * (start n .args .shelf .k - 1) + j)) (j-is d)
-    ∙ sym (stands-data (L (start n)) _ _ (stripe-is n) (position-is n) (other d))
+    let n = entry c in
+    ap (λ (j : ℕ). LookUp.Data (stripe n) (stripe n * (start n .args .shelf .k - 1) + j)) (j-is c)
+    ∙ sym (stands-data (L (start n)) _ _ (stripe-is n) (position-is n) (other c))
 
 pub stands-at-spec : {M : Type 1} → statement M
 stands-at-spec =
@@ -145,7 +145,7 @@ stands-at-spec =
     rem-position
     split-of-requires
     returns
-    (λ c. search needs)
+    index-of-requires
     sub-address
     mul-address
     add-address
