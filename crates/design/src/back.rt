@@ -49,8 +49,7 @@ fn write_sheet(shelf: Shelf, sheet: &mut [u8])
 {
     clear(sheet);
     write_header(shelf, sheet);
-    let table = shelf.table;
-    write_numbers(&table, shelf.b * shelf.k, sheet);
+    write_numbers(&shelf.table, shelf.b * shelf.k, sheet);
 }
 
 pub fn write_back(shelf: Shelf, buffer: &mut [u8]) -> WriteBack

@@ -136,17 +136,16 @@ pub fn is_shelf(shelf: Shelf) -> bool
         return false;
     }
     let n = b * k;
-    let table = shelf.table;
-    if !zero_past(&table, n) {
+    if !zero_past(&shelf.table, n) {
         return false;
     }
-    if !disks_below(&table, n, v) {
+    if !disks_below(&shelf.table, n, v) {
         return false;
     }
-    if !none_twice(&table, k, b) {
+    if !none_twice(&shelf.table, k, b) {
         return false;
     }
-    let counts = tally::tally(&table, k, b);
+    let counts = tally::tally(&shelf.table, k, b);
     if !tally::disks_even(&counts, v, shelf.r) {
         return false;
     }

@@ -81,9 +81,8 @@ pub fn place_in(shelf: Shelf, at: Split, position: usize) -> Place
 {
     let k = shelf.k;
     let r = shelf.r;
-    let table = shelf.table;
-    let disk = table[at.tuple * k + position];
-    let before = seek::times(&table, at.tuple * k, disk);
+    let disk = shelf.table[at.tuple * k + position];
+    let before = seek::times(&shelf.table, at.tuple * k, disk);
     let offset = at.full_table * r * k + at.copy * r + before;
     Place {
         disk: disk as usize,
@@ -119,8 +118,7 @@ pub fn stands_at(shelf: Shelf, disk: usize, offset: usize) -> LookUp
     let k = shelf.k;
     let b = shelf.b;
     let r = shelf.r;
-    let table = shelf.table;
-    let entry = seek::nth(&table, b * k, disk as u8, offset % r);
+    let entry = seek::nth(&shelf.table, b * k, disk as u8, offset % r);
     let stripe = offset / r * b + entry / k;
     let position = entry % k;
     let parity = split_of(k, b, stripe).parity;

@@ -1,5 +1,5 @@
 -- `design::back::write_sheet` meets its contract: zeros, the header over them, and the disk numbers after it are the sheet.
--- Assumes nothing.
+-- The shelf, whose table is lent, is t1 in the walk. Assumes nothing.
 use mathlib.Core.Path.{sym, ap, _∙_}
 use mathlib.Core.List.{List}
 use Prim.Native.Nat.{ℕ, _*_}
@@ -22,15 +22,15 @@ write-header-requires c κs =
 
 mul-write-numbers : tie.Need-mul-write-numbers
 mul-write-numbers c =
-    let start = c .before .before .before .before .before .before .before .before .before .before .before .before in
-    omega (arith, shelf-parts (start .args .shelf) (start .pre .0) .limits .places)
+    let start = c .before .before .before .before .before .before .before .before .before .before .before in
+    omega (arith, shelf-parts (start .args .t1) (start .pre .0) .limits .places)
 
 write-numbers-requires : tie.Need-write-numbers-requires
 write-numbers-requires c κs =
-    let at-header = c .before .before .before .before .before .before in
+    let at-header = c .before .before .before .before .before in
     let at-clear = at-header .before .before .before .before in
     let start = at-clear .before .before .before in
-    let h = start .args .shelf in
+    let h = start .args .t1 in
     let p = shelf-parts h (start .pre .0) in (
       (p .limits .places, table-length h _ (start .good .0), omega (arith, at-header .write-header .kept, at-clear .clear .kept)),
       λ i l. omega (arith, p .below i l, p .limits .v-most),
@@ -39,10 +39,10 @@ write-numbers-requires c κs =
 returns : tie.Need-returns
 returns c =
     let at-numbers = c .before .before in
-    let at-header = at-numbers .before .before .before .before .before .before .before in
+    let at-header = at-numbers .before .before .before .before .before .before in
     let at-clear = at-header .before .before .before .before in
     let start = at-clear .before .before .before in
-    let h = start .args .shelf in
+    let h = start .args .t1 in
     at-numbers .write-numbers .ensures
     ∙ ap (λ (s : List ℕ). packed s 48 (numbersIn (take (h .b * h .k) (h .table))))
     (at-header .write-header .ensures ∙ ap (λ (s : List ℕ). packed s 0 (headerIn h)) (at-clear .clear .ensures ∙ ap (λ (n : ℕ). replicate n 0) (start .pre .1)))

@@ -26,19 +26,19 @@ refused {x} h i e t = sym (shelf-fails h i (sym e ∙ not-true x t))
 kept : {x test : Bool} → x ≡ test → not x ≡ false → test ≡ true
 kept {x} e t = sym e ∙ not-false x t
 
--- ---- where the limits have passed, from each later test
+-- ---- where the limits have passed, from each later test; the shelf, whose table is lent, is t1 in the walk
 
 abbrev from-zero : tie.After-zero-past → tie.Else1
 from-zero c = c .before .before .before
 
 abbrev from-below : tie.After-disks-below → tie.Else1
-from-below c = from-zero (c .before .before .before)
+from-below c = from-zero (c .before .before .before .before)
 
 abbrev from-twice : tie.After-none-twice → tie.Else1
-from-twice c = from-below (c .before .before .before)
+from-twice c = from-below (c .before .before .before .before)
 
 abbrev from-tally : tie.After-tally → tie.Else1
-from-tally c = from-twice (c .before .before .before)
+from-tally c = from-twice (c .before .before .before .before)
 
 abbrev from-disks : tie.After-disks-even → tie.Else1
 from-disks c = from-tally (c .before .before)
@@ -47,7 +47,7 @@ abbrev from-pairs : tie.After-pairs-even → tie.Else1
 from-pairs c = from-disks (c .before .before .before)
 
 abbrev shelf : tie.Else1 → Shelf
-shelf c = c .before .before .args .shelf
+shelf c = c .before .before .args .t1
 
 limits-kept : (c : tie.Else1) → withinLimits (shelf c .v) (shelf c .k) (shelf c .b) (shelf c .T) (shelf c .u) ≡ true
 limits-kept c = kept (c .before .within-limits .ensures) (c .if1 .left)
@@ -87,25 +87,25 @@ returns-2 : tie.Need-returns-2
 returns-2 c = refused _ 1 (c .before .zero-past .ensures) (c .if2 .taken)
 
 disks-below-requires : tie.Need-disks-below-requires
-disks-below-requires c κs = within (from-zero (c .before .before)) .places
+disks-below-requires c κs = within (from-zero (c .before .before .before)) .places
 
 returns-3 : tie.Need-returns-3
 returns-3 c = refused _ 2 (below-is (c .before)) (c .if3 .taken)
 
 none-twice-requires : tie.Need-none-twice-requires
-none-twice-requires c κs = within (from-below (c .before .before)) .places
+none-twice-requires c κs = within (from-below (c .before .before .before)) .places
 
 returns-4 : tie.Need-returns-4
 returns-4 c = refused _ 3 (twice-is (c .before)) (c .if4 .taken)
 
 tally-requires : tie.Need-tally-requires
 tally-requires c κs =
-    let t = c .before .before in
+    let t = c .before .before .before in
     let h = shelf (from-twice t) in
     let l = within (from-twice t) in
-    let below = below-at (h .v) (h .k) (h .b) (h .table) (kept (below-is (t .before .before .before)) (t .before .before .if3 .left)) in (
+    let below = below-at (h .v) (h .k) (h .b) (h .table) (kept (below-is (t .before .before .before .before)) (t .before .before .before .if3 .left)) in (
       (l .places, omega (arith, mul-le-mul-left (h .b) (l .k-least))),
-      (λ i m. omega (arith, below i m), twice (designIn h) .0 (kept (twice-is t) (c .before .if4 .left))),
+      (λ i m. omega (arith, below i m), twice (designIn h) .0 (kept (twice-is t) (c .before .before .if4 .left))),
     )
 
 disks-even-requires : tie.Need-disks-even-requires
@@ -125,13 +125,13 @@ unfolding isShelf
 returns-7 c =
     let at-pairs = c .before .before in
     let at-disks = at-pairs .before .before .before in
-    let at-twice = at-disks .before .before .before .before .before in
-    let at-below = at-twice .before .before .before in
-    let at-zero = at-below .before .before .before in
+    let at-twice = at-disks .before .before .before .before .before .before in
+    let at-below = at-twice .before .before .before .before in
+    let at-zero = at-below .before .before .before .before in
     let w = limits-kept (from-zero at-zero) in
-    let z = kept (at-zero .zero-past .ensures) (at-below .before .before .if2 .left) in
-    let d = kept (below-is at-below) (at-twice .before .before .if3 .left) in
-    let n = kept (twice-is at-twice) (at-disks .before .before .before .before .if4 .left) in
+    let z = kept (at-zero .zero-past .ensures) (at-below .before .before .before .if2 .left) in
+    let d = kept (below-is at-below) (at-twice .before .before .before .if3 .left) in
+    let n = kept (twice-is at-twice) (at-disks .before .before .before .before .before .if4 .left) in
     let e = kept (disks-is at-disks) (at-pairs .before .before .if5 .left) in
     let p = kept (pairs-is at-pairs) (c .before .if6 .left) in
     c .loss-below .ensures ∙ rw (w, z, d, n, e, p)

@@ -1,4 +1,5 @@
--- `placement::fast::stands_at` meets its contract: the entry that is found gives the tuple and the position. Assumes nothing.
+-- `placement::fast::stands_at` meets its contract: the entry that is found gives the tuple and the position.
+-- The shelf, whose table is lent, is t1 in the walk. Assumes nothing.
 use mathlib.Core.Path.{_≡_, sym, ap, _∙_}
 use mathlib.Core.Logic.{_≢_}
 use Prim.Native.Nat.{ℕ, _+_, _-_, _*_, _/_, _%_, _<_}
@@ -20,10 +21,10 @@ use Rattle.placement.proofs.fast.stands_at.Statement.{statement}
 use Rattle.placement.proofs.fast.stands_at.Tie as tie
 
 abbrev L : tie.Start → Layout
-L s = layoutIn (s .args .shelf)
+L s = layoutIn (s .args .t1)
 
 E : (s : tie.Start) → Even (L s)
-E s = even-shelf (s .args .shelf) (s .pre .0)
+E s = even-shelf (s .args .t1) (s .pre .0)
 
 -- ---- where the entry is found
 
@@ -32,16 +33,16 @@ start c = c .before .before .before
 
 -- the stripe and the position, as the code has them
 abbrev stripe : tie.After-nth → ℕ
-stripe c = let a = start c .args in a .offset / a .shelf .r * a .shelf .b + c .nth .result / a .shelf .k
+stripe c = let a = start c .args in a .offset / a .t1 .r * a .t1 .b + c .nth .result / a .t1 .k
 
 abbrev position : tie.After-nth → ℕ
-position c = c .nth .result % start c .args .shelf .k
+position c = c .nth .result % start c .args .t1 .k
 
 stripe-is : (c : tie.After-nth) → stripeAt (L (start c)) (start c .args .disk) (start c .args .offset) ≡ stripe c
-stripe-is c = let s = start c in stripe-found (s .args .shelf) (s .pre .0) (s .args .disk) (s .args .offset) (c .nth .result) (s .pre .1) (c .nth .ensures)
+stripe-is c = let s = start c in stripe-found (s .args .t1) (s .pre .0) (s .args .disk) (s .args .offset) (c .nth .result) (s .pre .1) (c .nth .ensures)
 
 position-is : (c : tie.After-nth) → positionAt (L (start c)) (start c .args .disk) (start c .args .offset) ≡ position c
-position-is c = let s = start c in position-found (s .args .shelf) (s .pre .0) (s .args .disk) (s .args .offset) (c .nth .result) (s .pre .1) (c .nth .ensures)
+position-is c = let s = start c in position-found (s .args .t1) (s .pre .0) (s .args .disk) (s .args .offset) (c .nth .result) (s .pre .1) (c .nth .ensures)
 
 stripe-lt : (c : tie.After-nth) → stripe c < stripes (L (start c))
 stripe-lt c =
@@ -65,21 +66,21 @@ other c e = c .before .if1 .left (e ∙ sym (parity-is (c .before .before)))
 j-is : (c : tie.After-index-of) → c .index-of .result ≡ indexOf (parity c) (position (entry c))
 j-is c = c .index-of .ensures ∙ ap (λ (p : ℕ). indexOf p (position (entry c))) (parity-is (c .before .before))
 
-address-lt : (c : tie.After-index-of) → stripe (entry c) * (start (entry c) .args .shelf .k - 1) + c .index-of .result < addresses (L (start (entry c)))
+address-lt : (c : tie.After-index-of) → stripe (entry c) * (start (entry c) .args .t1 .k - 1) + c .index-of .result < addresses (L (start (entry c)))
 address-lt c =
     let n = entry c in
     let s = start n in
-    let few : position n < s .args .shelf .k = mod-lt (n .nth .result) (omega (arith, E s .k-least)) in
-    let j-lt : c .index-of .result < s .args .shelf .k - 1 = omega (arith, j-is c, data-at (L s) (E s) (stripe n) (position n) few (other c) .below) in
+    let few : position n < s .args .t1 .k = mod-lt (n .nth .result) (omega (arith, E s .k-least)) in
+    let j-lt : c .index-of .result < s .args .t1 .k - 1 = omega (arith, j-is c, data-at (L s) (E s) (stripe n) (position n) few (other c) .below) in
     digits-lt (stripe-lt n) j-lt
 
 -- ---- the needs
 
 mul-nth : tie.Need-mul-nth
-mul-nth c = let s = c .before .before in omega (arith, shelf-parts (s .args .shelf) (s .pre .0) .limits .places)
+mul-nth c = let s = c .before .before in omega (arith, shelf-parts (s .args .t1) (s .pre .0) .limits .places)
 
 cast-nth : tie.Need-cast-nth
-cast-nth c = let s = c .before .before in omega (arith, s .pre .1, shelf-parts (s .args .shelf) (s .pre .0) .limits .v-most)
+cast-nth c = let s = c .before .before in omega (arith, s .pre .1, shelf-parts (s .args .t1) (s .pre .0) .limits .v-most)
 
 rem-nth : tie.Need-rem-nth
 rem-nth c = E (c .before .before) .r-pos
@@ -87,7 +88,7 @@ rem-nth c = E (c .before .before) .r-pos
 nth-requires : tie.Need-nth-requires
 nth-requires c κs =
     let s = c .before .before in
-    (shelf-parts (s .args .shelf) (s .pre .0) .limits .places, some-left (s .args .shelf) (s .pre .0) (s .args .disk) (s .args .offset) (s .pre .1))
+    (shelf-parts (s .args .t1) (s .pre .0) .limits .places, some-left (s .args .t1) (s .pre .0) (s .args .disk) (s .args .offset) (s .pre .1))
 
 div-stripe : tie.Need-div-stripe
 div-stripe c = E (start c) .r-pos
@@ -105,7 +106,7 @@ rem-position : tie.Need-rem-position
 rem-position c = omega (arith, E (start c) .k-least)
 
 split-of-requires : tie.Need-split-of-requires
-split-of-requires c κs = split-asks (start c .args .shelf) (start c .pre .0)
+split-of-requires c κs = split-asks (start c .args .t1) (start c .pre .0)
 
 returns : tie.Need-returns
 returns c =
@@ -127,7 +128,7 @@ add-address c = omega (arith, address-lt c, bounds _ (start (c .before .before .
 returns-2 : tie.Need-returns-2
 returns-2 c =
     let n = entry c in
-    ap (λ (j : ℕ). LookUp.Data (stripe n) (stripe n * (start n .args .shelf .k - 1) + j)) (j-is c)
+    ap (λ (j : ℕ). LookUp.Data (stripe n) (stripe n * (start n .args .t1 .k - 1) + j)) (j-is c)
     ∙ sym (stands-data (L (start n)) _ _ (stripe-is n) (position-is n) (other c))
 
 pub stands-at-spec : {M : Type 1} → statement M
