@@ -21,4 +21,5 @@ pub mod Writing
 pub mod Written
 pub mod RoundTrip
 pub mod WritingBack
+pub mod Numerals
 pub mod Unique
