@@ -16,7 +16,7 @@ use Rattle.design.specs.Tuples.{has, holds, before, shared, disksBelow, again, 
 use Rattle.design.specs.Sheet.{sheetLength, tableOf, withinLimits, fillingZero, sheetRules, shelfOf, openedBy, opened}
 use Rattle.design.proofs.Refused.{accepted-shelf}
 use Rattle.design.proofs.RoundTrip.{opened-is-shelf}
-use Rattle.placement.specs.Layout.{layoutIn, addresses, offsets, offsetOf, tupleAt, stripeAt, positionAt}
+use Rattle.placement.specs.Layout.{layoutIn, addresses, offsets, splitOf, offsetOf, tupleAt, stripeAt, positionAt}
 use Rattle.placement.specs.Placed.{rangeRule, spotOf, placeRules, placedBy, placed, standsAt, lookUpRules, lookedUpBy, lookedUp}
 use Rattle.known.specs.Table.{Case, Answer, sheetA, sheetA₂, sheetB, twoPairs, onePair, ofPlacing, ofLookUp, ofVerdict, answer, address, place, sheet, table}
 
@@ -55,7 +55,7 @@ row : {x y : Answer} {l m : List Answer} → x ≡ y → l ≡ m → x ∷ l ≡
 row p q = ap₂ (λ (x : Answer) (l : List Answer). x ∷ l) p q
 
 pub known : map (λ (c : Case). answer (c .question)) table ≡ map (λ (c : Case). c .known) table
-unfolding table number field bitAt count nth listFrom firstBroken has holds before shared tableOf shelfOf offsetOf tupleAt stripeAt positionAt spotOf placedBy standsAt lookedUpBy sheetA sheetA₂ sheetB
+unfolding table number field bitAt count nth listFrom firstBroken has holds before shared tableOf shelfOf splitOf offsetOf tupleAt stripeAt positionAt spotOf placedBy standsAt lookedUpBy sheetA sheetA₂ sheetB
 known =
     row (placing sheetA acceptedA 0)
     (row (placing sheetA acceptedA 3)

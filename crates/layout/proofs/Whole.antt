@@ -17,7 +17,7 @@ use Rattle.design.specs.Refusals.{number, firstBroken}
 use Rattle.design.specs.Tuples.{has, holds, before, shared, disksBelow, again, noneTwice, disksEven, pairsEven}
 use Rattle.design.specs.Sheet.{sheetLength, tableOf, withinLimits, fillingZero, sheetRules, shelfOf, openedBy, opened}
 use Rattle.design.proofs.Lowest.{some-number}
-use Rattle.placement.specs.Layout.{Layout, layoutIn, stripes, placeOf, offsetOf}
+use Rattle.placement.specs.Layout.{Layout, layoutIn, stripes, splitOf, placeOf, offsetOf}
 use Rattle.layout.specs.declared.Start.{Start}
 use Rattle.layout.specs.Text.{lastDigits, decimal, placeText, joined, firstLine, placeWord, stripeLine, linesFrom, refusedLine, textBy, layoutText}
 use Rattle.layout.specs.Calls.{started, startedBy}
@@ -27,7 +27,7 @@ use Rattle.layout.proofs.Joined.{joined-ext, joined-add}
 -- ---- sheet B
 
 pub text-of-B : layoutText sheetB ≡ textB
-unfolding sheetB textB layoutText textBy firstLine linesFrom stripeLine placeWord placeText placeOf offsetOf joined decimal lastDigits opened openedBy sheetRules firstBroken shelfOf tableOf listFrom field bitAt count every has holds before shared disksBelow again noneTwice disksEven pairsEven sheetLength withinLimits fillingZero
+unfolding sheetB textB layoutText textBy firstLine linesFrom stripeLine placeWord placeText placeOf offsetOf splitOf joined decimal lastDigits opened openedBy sheetRules firstBroken shelfOf tableOf listFrom field bitAt count every has holds before shared disksBelow again noneTwice disksEven pairsEven sheetLength withinLimits fillingZero
 text-of-B = refl
 
 -- ---- part by part

@@ -47,7 +47,7 @@ module _ (h : Shelf) (ok : isShelf h ≡ true) (s : ℕ) where
   position-in-inj i j hi hj e = sym (index-position i hi) ∙ ap (indexOf h s) e ∙ index-position j hj
 
   data-below : (p : ℕ) → p < h .k → eqb p (parityOf (layoutIn h) s) ≡ false → dataOf (parityOf (layoutIn h) s) p < h .k - 1
-  data-below p l e = index-below (parityOf (layoutIn h) s) p (eqb-false _ _ e) (h .k - 1) (omega arith) (omega arith)
+  data-below p l e = index-below (parityOf (layoutIn h) s) p (eqb-false _ _ e) (h .k - 1) (omega (arith, parity-lt (layoutIn h) E s)) (omega arith)
 
   pub index-lt : (p : ℕ) → p < h .k → indexOf h s p < h .k
   index-lt p l = cases (eqb p (parityOf (layoutIn h) s))

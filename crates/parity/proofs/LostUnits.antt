@@ -18,7 +18,7 @@ use Rattle.design.specs.Shelf.{isShelf}
 use Rattle.design.proofs.Counting.{alike, count-le}
 use Rattle.placement.specs.Layout.{layoutIn, stripes, parityOf, stripeAt, positionAt}
 use Rattle.placement.proofs.Even.{Even, even-shelf}
-use Rattle.placement.proofs.Row.{copy-row}
+use Rattle.placement.proofs.Row.{parity-row}
 use Rattle.placement.proofs.Undo.{row-there}
 use Rattle.placement.proofs.Flat.{isDisk, some-left, stripe-found, position-found}
 use Rattle.parity.specs.declared.Shape.{Shape}
@@ -128,7 +128,8 @@ module _ (h : Shelf) {lost : ℕ} {ranks entries : List ℕ} {shape : Shape} (P 
     parity-is : parityOf (layoutIn h) (stripeHere h (unitOn h lost o)) ≡ h .k - 1 - o / h .r % h .k
     parity-is =
         ap (λ (s : ℕ). parityOf (layoutIn h) s) found
-        ∙ ap (λ (c : ℕ). h .k - 1 - c) (copy-row (layoutIn h) E (stripeAt (layoutIn h) lost o) ∙ ap (λ (x : ℕ). x % h .k) (row-there (layoutIn h) E lost o disk-below))
+        ∙ parity-row (layoutIn h) E (stripeAt (layoutIn h) lost o)
+        ∙ ap (λ (x : ℕ). h .k - 1 - x % h .k) (row-there (layoutIn h) E lost o disk-below)
 
     position-is : positionAt (layoutIn h) (diskAt h (unitOn h lost o)) (unitOn h lost o % depth h) ≡ getD entries (o % h .r) 0 % h .k
     position-is = ap₂ (positionAt (layoutIn h)) unit-disk unit-offset ∙ position-found h (P .ok) lost o _ disk-below entry-is

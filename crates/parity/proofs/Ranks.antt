@@ -9,7 +9,7 @@ use Rattle.design.specs.declared.Shelf.{Shelf}
 use Rattle.design.specs.Shelf.{designIn, isShelf}
 use Rattle.placement.specs.Layout.{layoutIn, tupleOf}
 use Rattle.placement.proofs.Even.{Even, even-shelf}
-use Rattle.placement.proofs.Row.{tuple-lt, tuple-row, copy-row, offset-row}
+use Rattle.placement.proofs.Row.{tuple-lt, tuple-row, parity-row, offset-row}
 use Rattle.placement.proofs.Flat.{rank-before}
 use Rattle.parity.specs.Stripe.{depth, positionIn, unitIn}
 use Rattle.parity.specs.inner.Stores.{Ranked, entryOf, numberIn}
@@ -21,7 +21,7 @@ module _ (h : Shelf) (ok : isShelf h ≡ true) where
 
   module _ (s i : ℕ) (hi : i < h .k) where
     entry-is : entryOf (h .k) (h .b) s i ≡ tupleOf (layoutIn h) s * h .k + positionIn h s i
-    entry-is = rw (copy-row (layoutIn h) E s, tuple-row (layoutIn h) E s)
+    entry-is = rw (parity-row (layoutIn h) E s, tuple-row (layoutIn h) E s)
 
     pub numbered : (ranks : List ℕ) → Ranked (h .table) (h .b * h .k) ranks
         → numberIn (h .table) ranks (h .k) (h .b) (h .r) (depth h) s i ≡ unitIn h s i

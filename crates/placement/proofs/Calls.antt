@@ -1,16 +1,17 @@
 -- Looking up undoes placing and placing undoes looking up, over the calls' own promises. Assumes nothing.
 use mathlib.Core.Path.{_≡_, sym, ap, _∙_}
 use mathlib.Core.Logic.{_⊎_, inl, inr}
-use Prim.Native.Nat.{ℕ, _-_, _*_}
+use Prim.Native.Nat.{ℕ, _*_}
 use native.Mathlib.Nat.{mul-div-cancel}
 use native.Mathlib.Omega.{arith}
 use Rattle.design.specs.declared.Shelf.{Shelf}
 use Rattle.placement.specs.declared.Spot.{Spot}
 use Rattle.placement.specs.declared.Placing.the-variants as Placing
 use Rattle.placement.specs.declared.LookUp.the-variants as LookUp
-use Rattle.placement.specs.Layout.{layoutIn, stripeOf}
+use Rattle.placement.specs.Layout.{layoutIn, dataCount, stripeOf}
 use Rattle.placement.specs.Placed.{spotOf, placed, lookedUp}
 use Rattle.placement.proofs.Even.{Even, even-shelf}
+use Rattle.placement.proofs.DataCount.{data-pos}
 use Rattle.placement.proofs.Stands.{PlaceOf, ParityPlaceOf, Taken, by-address, by-parity, place-below, parity-below, stripe-below, place-stands, parity-place-stands, taken, address-there, parity-there}
 use Rattle.placement.proofs.Accepted.{places, placed-at, Looks, looks, looked-up}
 
@@ -82,6 +83,6 @@ every-place h d o w = go (taken (layoutIn h) E d o (w .disk) (w .offset))
     go : Taken (layoutIn h) d o → ((a : ℕ) × PlacedAt h a d o) ⊎ ((a : ℕ) × ParityPlacedAt h a d o)
     go (by-address a l x) = inl (a, place-of-look-up h a d o (stripeOf (layoutIn h) a) (looked-up h d o w ∙ place-stands (layoutIn h) E x) .0)
     go (by-parity s l x) =
-        let a : ℕ = s * (h .k - 1) in
-        let e : stripeOf (layoutIn h) a ≡ s = mul-div-cancel s (omega (arith, E .k-least)) in
+        let a : ℕ = s * dataCount (layoutIn h) in
+        let e : stripeOf (layoutIn h) a ≡ s = mul-div-cancel s (data-pos (layoutIn h) E) in
         inr (a, parity-of-look-up h a d o (looked-up h d o w ∙ parity-place-stands (layoutIn h) E x ∙ ap LookUp.Parity (sym e)))

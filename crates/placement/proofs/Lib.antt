@@ -1,11 +1,13 @@
 pub mod Stepping
 pub mod Held
 pub mod Even
+pub mod DataCount
 pub mod Row
 pub mod Position
 pub mod FullTables
 pub mod Undo
 pub mod Stands
+pub mod Turning
 pub mod Accepted
 pub mod Lists
 pub mod Running

@@ -3,7 +3,7 @@
 use mathlib.Core.Path.{_≡_, sym, ap, ap₂, _∙_}
 use mathlib.Core.Logic.{_↔_, _⊎_, inl, inr, _≢_}
 use mathlib.Core.Bool.{Bool, true, false, _&&_}
-use Prim.Native.Nat.{ℕ, _+_, _-_, _*_, _/_, _%_, _≤_, _<_}
+use Prim.Native.Nat.{ℕ, _+_, _*_, _/_, _%_, _≤_, _<_}
 use native.Mathlib.Nat.{mod-lt, div-add-mod', div-eq-of-lt-le, div-mul-le-self, lt-div-mul-add}
 use native.Mathlib.Omega.{arith}
 use lib.Dec.{ltb}
@@ -15,8 +15,9 @@ use Rattle.design.specs.Shelf.{designIn, isShelf}
 use Rattle.design.proofs.Counting.{decided, count-ext}
 use Rattle.design.proofs.Design.{shared-sym}
 use Rattle.design.proofs.ShelfTests.{shelf-parts}
-use Rattle.placement.specs.Layout.{Layout, layoutIn, stripes, offsets, stripeOf, tupleOf, diskOf, offsetOf, tupleAt, stripeAt}
+use Rattle.placement.specs.Layout.{Layout, layoutIn, stripes, dataCount, offsets, stripeOf, tupleOf, diskOf, offsetOf, tupleAt, stripeAt}
 use Rattle.placement.proofs.Even.{Even, even-shelf}
+use Rattle.placement.proofs.DataCount.{data-pos}
 use Rattle.placement.proofs.Row.{tuple-row, offset-row, disk-lt}
 use Rattle.placement.proofs.Undo.{tuple-there}
 use Rattle.placement.proofs.Rows.{count-digit, count-digits, count-nth}
@@ -27,10 +28,10 @@ stripeHolds L s d = holds (L .design) (tupleOf L s) d
 
 module _ (L : Layout) (E : Even L) where
   -- the addresses of stripe s follow one another
-  pub stripe-exactly : (a s : ℕ) → (stripeOf L a ≡ s) ↔ ((s * (L .design .k - 1) ≤ a) × (a < (s + 1) * (L .design .k - 1)))
+  pub stripe-exactly : (a s : ℕ) → (stripeOf L a ≡ s) ↔ ((s * dataCount L ≤ a) × (a < (s + 1) * dataCount L))
   stripe-exactly a s =
-      let l : 0 < L .design .k - 1 = omega (arith, E .k-least) in
-      (λ e. rw (← e) (div-mul-le-self a (L .design .k - 1), omega (arith, lt-div-mul-add {a = a} l)), λ h. div-eq-of-lt-le (L .design .k - 1) (h .0) (h .1))
+      let l = data-pos L E in
+      (λ e. rw (← e) (div-mul-le-self a (dataCount L), omega (arith, lt-div-mul-add {a = a} l)), λ h. div-eq-of-lt-le (dataCount L) (h .0) (h .1))
 
   -- a test of the tuple, over all stripes
   tuple-count : (f : ℕ → Bool) → count (λ s. f (tupleOf L s)) (stripes L) ≡ L .T * L .design .k * count f (L .design .b)

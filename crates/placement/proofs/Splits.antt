@@ -10,21 +10,20 @@ use Rattle.design.specs.Shelf.{isShelf}
 use Rattle.design.proofs.ShelfTests.{shelf-parts}
 use Rattle.placement.specs.declared.fast.Split.{Split}
 use Rattle.placement.specs.declared.fast.Place.{Place}
-use Rattle.placement.specs.Layout.{Layout, layoutIn, stripes, offsets, parityOf, splitOf, SplitIn, offsetOf, placeIn, placeOf}
+use Rattle.placement.specs.Layout.{Layout, layoutIn, stripes, offsets, splitOf, stripeSplit, parityOf, SplitIn, offsetOf, placeIn, placeOf}
 use Rattle.placement.proofs.Even.{Even, even-shelf}
 use Rattle.placement.proofs.Row.{tuple-lt, copy-lt, rank-lt}
 use Rattle.placement.proofs.Bounds.{bounds}
 
-pub split-parity : (L : Layout) (s : ℕ) {at : Split} → at ≡ splitOf (L .design .k) (L .design .b) s → at .parity ≡ parityOf L s
-unfolding splitOf
+pub split-parity : (L : Layout) (s : ℕ) {at : Split} → at ≡ stripeSplit L s → at .parity ≡ parityOf L s
 split-parity L s q = ap (λ (x : Split). x .parity) q
 
-pub split-place : (L : Layout) (s p : ℕ) {at : Split} {x : Place} → at ≡ splitOf (L .design .k) (L .design .b) s → x ≡ placeIn L at p → x ≡ placeOf L s p
-unfolding placeIn splitOf placeOf offsetOf
+pub split-place : (L : Layout) (s p : ℕ) {at : Split} {x : Place} → at ≡ stripeSplit L s → x ≡ placeIn L at p → x ≡ placeOf L s p
+unfolding placeIn placeOf offsetOf
 split-place L s p q r = r ∙ ap (λ (at : Split). placeIn L at p) q
 
 module _ (L : Layout) (E : Even L) where
-  pub split-in : (s : ℕ) → s < stripes L → SplitIn L (splitOf (L .design .k) (L .design .b) s)
+  pub split-in : (s : ℕ) → s < stripes L → SplitIn L (stripeSplit L s)
   unfolding splitOf
   split-in s l =
       let some : 0 < L .design .b * L .design .k = mul-pos (E .b-pos) (omega (arith, E .k-least)) in
@@ -41,7 +40,7 @@ module _ (h : Shelf) (e : isShelf h ≡ true) where
   pub split-asks : (1 ≤ h .k) × (1 ≤ h .b) × (h .b * h .k < 2 ^ 64)
   split-asks = let l = shelf-parts h e .limits in (omega (arith, l .k-least), l .b-least, omega (arith, l .places))
 
-  pub split-of-in : {s : ℕ} {at : Split} → s < stripes (layoutIn h) → at ≡ splitOf (h .k) (h .b) s → SplitIn (layoutIn h) at
+  pub split-of-in : {s : ℕ} {at : Split} → s < stripes (layoutIn h) → at ≡ stripeSplit (layoutIn h) s → SplitIn (layoutIn h) at
   split-of-in {s} l q = rw q (split-in (layoutIn h) (even-shelf h e) s l)
 
 module _ (h : Shelf) (e : isShelf h ≡ true) (at : Split) (w : SplitIn (layoutIn h) at) (p : ℕ) (hp : p < h .k) where

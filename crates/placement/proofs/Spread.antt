@@ -18,13 +18,13 @@ use Rattle.design.proofs.Sums.{sum-ext, sum-const, count-swap, count-unique}
 use Rattle.placement.specs.declared.LookUp.{LookUp}
 use Rattle.placement.specs.declared.LookUp.the-variants as LookUp
 use Rattle.placement.specs.Slots.{positionOf}
-use Rattle.placement.specs.Layout.{Layout, layoutIn, offsets, stripeOf, jOf, wOf, copyOf, tupleOf, parityOf, diskOf, tupleAt, stripeAt, positionAt}
+use Rattle.placement.specs.Layout.{Layout, layoutIn, dataCount, offsets, stripeOf, jOf, copyOf, tupleOf, parityOf, diskOf, splitOf, tupleAt, stripeAt, positionAt}
 use Rattle.placement.specs.Placed.{spotOf, standsAt, lookedUp}
 use Rattle.placement.proofs.Held.{held-at}
 use Rattle.placement.proofs.Stepping.{position-not-parity}
 use Rattle.placement.proofs.Even.{Even, even-shelf}
 use Rattle.placement.proofs.Position.{parity-lt, position-lt, position-inj}
-use Rattle.placement.proofs.Row.{tuple-lt, copy-row}
+use Rattle.placement.proofs.Row.{tuple-lt, parity-copy, parity-row}
 use Rattle.placement.proofs.Undo.{row-there, position-there}
 use Rattle.placement.proofs.Stands.{j-lt}
 use Rattle.placement.proofs.Accepted.{looked-up}
@@ -47,7 +47,7 @@ module _ (L : Layout) (E : Even L) where
       let hy : y < L .design .k = position-lt L E s (jOf L a′) (j-lt L E a′) in
       let ed′ : diskOf L s x ≡ diskOf L s y = ed ∙ ap (λ (n : ℕ). diskOf L n (positionOf (parityOf L n) (jOf L a′))) (sym es) in
       let ej : jOf L a ≡ jOf L a′ = position-inj L E s (jOf L a) (jOf L a′) (positions-apart s x y hx hy ed′) in
-      sym (div-add-mod' a (L .design .k - 1)) ∙ ap₂ (λ (m n : ℕ). m * (L .design .k - 1) + n) es ej ∙ div-add-mod' a′ (L .design .k - 1)
+      sym (div-add-mod' a (dataCount L)) ∙ ap₂ (λ (m n : ℕ). m * dataCount L + n) es ej ∙ div-add-mod' a′ (dataCount L)
 
   -- an address and its stripe's parity
   pub parity-apart : (a : ℕ) → spotOf L a .disk ≢ spotOf L a .«parity_disk»
@@ -64,13 +64,15 @@ abbrev pub stripeIn : Layout → ℕ → ℕ → ℕ → ℕ
 stripeIn L t c q = t * (L .design .b * L .design .k) + (c * L .design .b + q)
 
 module _ (L : Layout) (E : Even L) where
-  w-in : (t c q : ℕ) → c < L .design .k → q < L .design .b → wOf L (stripeIn L t c q) ≡ c * L .design .b + q
+  w-in : (t c q : ℕ) → c < L .design .k → q < L .design .b → stripeIn L t c q % (L .design .b * L .design .k) ≡ c * L .design .b + q
   w-in t c q hc hq = let l : c * L .design .b + q < L .design .b * L .design .k = omega (arith, digits-lt hc hq) in digits-mod t l
 
   copy-in : (t c q : ℕ) → c < L .design .k → q < L .design .b → copyOf L (stripeIn L t c q) ≡ c
+  unfolding splitOf
   copy-in t c q hc hq = rw (w-in t c q hc hq) (digits-div c hq)
 
   tuple-in : (t c q : ℕ) → c < L .design .k → q < L .design .b → tupleOf L (stripeIn L t c q) ≡ q
+  unfolding splitOf
   tuple-in t c q hc hq = rw (w-in t c q hc hq) (digits-mod c hq)
 
   -- each position is the parity's in one copy
@@ -101,7 +103,7 @@ module _ (L : Layout) (E : Even L) where
 
       each : (c : ℕ) → c < L .design .k → eqb (diskOf L (stripeIn L t c q) (parityOf L (stripeIn L t c q))) d ≡ eqb p (L .design .k - 1 - c)
       each c l =
-          ap₂ (λ (x y : ℕ). eqb (L .design .disk y (L .design .k - 1 - x)) d) (copy-in t c q l hq) (tuple-in t c q l hq)
+          ap₂ (λ (x y : ℕ). eqb (L .design .disk y x) d) (parity-copy L E (stripeIn L t c q) ∙ ap (λ (x : ℕ). L .design .k - 1 - x) (copy-in t c q l hq)) (tuple-in t c q l hq)
           ∙ stands-once q d p (L .design .k - 1 - c) hq at (omega arith)
 
 -- ---- the parity units of a disk
@@ -126,7 +128,7 @@ module _ (L : Layout) (E : Even L) (d : ℕ) (hd : d < L .design .v) where
   unfolding standsAt
   parity-digits o =
       parity-test (eqb (positionAt L d o) (parityOf L (stripeAt L d o))) (stripeAt L d o) _
-      ∙ ap₂ eqb (position-digit o) (ap (λ (c : ℕ). L .design .k - 1 - c) (copy-row L E (stripeAt L d o) ∙ ap (λ (n : ℕ). n % L .design .k) (row-there L E d o hd)))
+      ∙ ap₂ eqb (position-digit o) (parity-row L E (stripeAt L d o) ∙ ap (λ (n : ℕ). L .design .k - 1 - n % L .design .k) (row-there L E d o hd))
 
   pub parity-units : count (λ o. isParity (standsAt L d o)) (offsets L) ≡ L .T * L .r
   parity-units =

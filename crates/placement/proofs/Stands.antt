@@ -3,7 +3,7 @@
 use mathlib.Core.Path.{_≡_, refl, sym, ap, _∙_}
 use mathlib.Core.Logic.{_↔_, _⊎_, inl, inr, _≢_}
 use mathlib.Core.Bool.{true, false}
-use Prim.Native.Nat.{ℕ, _+_, _-_, _*_, _<_}
+use Prim.Native.Nat.{ℕ, _+_, _*_, _<_}
 use native.Mathlib.Nat.{div-add-mod', mod-lt, div-lt-iff-lt-mul}
 use native.Mathlib.Omega.{arith}
 use lib.Dec.{eqb}
@@ -13,10 +13,11 @@ use Rattle.design.proofs.Counting.{decided}
 use Rattle.placement.specs.declared.LookUp.{LookUp}
 use Rattle.placement.specs.declared.LookUp.the-variants as LookUp
 use Rattle.placement.specs.Slots.{positionOf, indexOf}
-use Rattle.placement.specs.Layout.{Layout, stripes, addresses, offsets, stripeOf, jOf, parityOf, diskOf, offsetOf, stripeAt, positionAt, addressOf}
+use Rattle.placement.specs.Layout.{Layout, stripes, dataCount, addresses, offsets, stripeOf, jOf, parityOf, diskOf, offsetOf, stripeAt, positionAt, addressOf}
 use Rattle.placement.specs.Placed.{spotOf, standsAt}
 use Rattle.placement.proofs.Stepping.{position-not-parity, index-of-position}
 use Rattle.placement.proofs.Even.{Even}
+use Rattle.placement.proofs.DataCount.{data-pos}
 use Rattle.placement.proofs.Position.{DataAt, data-at, parity-lt, position-lt}
 use Rattle.placement.proofs.Row.{disk-lt, offset-lt}
 use Rattle.placement.proofs.Undo.{stripe-back, position-back, position-there, stripe-there, disk-there, offset-there}
@@ -47,9 +48,6 @@ module _ (L : Layout) (d o : ℕ) {s p : ℕ} (stripe : stripeAt L d o ≡ s) (p
   stands-data ne = rw (stripe, position, ne-eqb p (parityOf L s) ne)
 
 module _ (L : Layout) (E : Even L) where
-  data-pos : 0 < L .design .k - 1
-  data-pos = omega (arith, E .k-least)
-
   -- ---- what stands at the place of a position
 
   pub parity-back : (s : ℕ) → standsAt L (diskOf L s (parityOf L s)) (offsetOf L s (parityOf L s)) ≡ LookUp.Parity s
@@ -57,26 +55,26 @@ module _ (L : Layout) (E : Even L) where
       let l : parityOf L s < L .design .k = parity-lt L E s in
       stands-parity L _ _ (stripe-back L E s (parityOf L s) l) (position-back L E s (parityOf L s) l) refl
 
-  data-stands : (s j : ℕ) → j < L .design .k - 1
-      → standsAt L (diskOf L s (positionOf (parityOf L s) j)) (offsetOf L s (positionOf (parityOf L s) j)) ≡ LookUp.Data s (s * (L .design .k - 1) + j)
+  data-stands : (s j : ℕ) → j < dataCount L
+      → standsAt L (diskOf L s (positionOf (parityOf L s) j)) (offsetOf L s (positionOf (parityOf L s) j)) ≡ LookUp.Data s (s * dataCount L + j)
   data-stands s j h =
       let x : ℕ = positionOf (parityOf L s) j in
       let l : x < L .design .k = position-lt L E s j h in
       stands-data L _ _ (stripe-back L E s x l) (position-back L E s x l) (position-not-parity (parityOf L s) j)
-      ∙ ap (λ (i : ℕ). LookUp.Data s (s * (L .design .k - 1) + i)) (index-of-position (parityOf L s) j)
+      ∙ ap (λ (i : ℕ). LookUp.Data s (s * dataCount L + i)) (index-of-position (parityOf L s) j)
 
   -- ---- the place of an address
 
-  pub j-lt : (a : ℕ) → jOf L a < L .design .k - 1
-  j-lt a = mod-lt a data-pos
+  pub j-lt : (a : ℕ) → jOf L a < dataCount L
+  j-lt a = mod-lt a (data-pos L E)
 
   pub stripe-below : (a : ℕ) → (stripeOf L a < stripes L) ↔ (a < addresses L)
-  stripe-below a = div-lt-iff-lt-mul data-pos
+  stripe-below a = div-lt-iff-lt-mul (data-pos L E)
 
   pub address-back : (a : ℕ) → standsAt L (spotOf L a .disk) (spotOf L a .offset) ≡ LookUp.Data (stripeOf L a) a
   unfolding spotOf
   address-back a =
-      data-stands (stripeOf L a) (jOf L a) (j-lt a) ∙ ap (LookUp.Data (stripeOf L a)) (div-add-mod' a (L .design .k - 1))
+      data-stands (stripeOf L a) (jOf L a) (j-lt a) ∙ ap (LookUp.Data (stripeOf L a)) (div-add-mod' a (dataCount L))
 
   pub place-stands : {a d o : ℕ} → PlaceOf L a d o → standsAt L d o ≡ LookUp.Data (stripeOf L a) a
   place-stands {a} w = rw (← w .disk, ← w .offset) (address-back a)

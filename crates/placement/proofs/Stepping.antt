@@ -1,13 +1,14 @@
 -- Stepping over the parity at position p: the position of data j and the data at position x undo each other, keep the order and
 -- leave the parity out. Assumes nothing.
-use mathlib.Core.Path.{_≡_}
+use mathlib.Core.Path.{_≡_, refl, sym, ap, _∙_}
 use mathlib.Core.Logic.{_⊎_, inl, inr, _≢_}
-use mathlib.Core.Bool.{true, false}
-use Prim.Native.Nat.{ℕ, _+_, _-_, _≤_, _<_}
+use mathlib.Core.Bool.{Bool, true, false, not}
+use Prim.Native.Nat.{ℕ, zero, suc, _+_, _-_, _≤_, _<_}
 use native.Mathlib.Omega.{arith}
-use lib.Dec.{ltb}
-use borrow.Author.Tests.{lt-ltb, ltb-true, le-ltb, ltb-false}
-use Rattle.design.proofs.Counting.{decided}
+use lib.Dec.{ltb, eqb}
+use borrow.Author.Tests.{lt-ltb, ltb-true, le-ltb, ltb-false, eqb-true, ne-eqb, eqb-false}
+use Rattle.design.specs.Count.{count, nth}
+use Rattle.design.proofs.Counting.{decided, count-true, count-false, nth-count}
 use Rattle.placement.specs.Slots.{positionOf, indexOf}
 
 module _ (p : ℕ) where
@@ -87,3 +88,35 @@ module _ (p : ℕ) where
         go : (ltb x p ≡ true) ⊎ (ltb x p ≡ false) → indexOf p x < n
         go (inl e) = let h = ltb-true x p e in omega (arith, index-left x h)
         go (inr e) = let h = ltb-false x p e in omega (arith, index-right x h)
+
+  -- ---- data j stands at the j-th of the positions that are not the parity's
+
+  abbrev other : ℕ → Bool
+  other x = not (eqb x p)
+
+  passes : (x : ℕ) → x ≢ p → other x ≡ true
+  passes x ne = ap not (ne-eqb x p ne)
+
+  before-parity : (x : ℕ) → x ≤ p → count other x ≡ x
+  unfolding count
+  before-parity zero l = refl
+  before-parity (suc x) l = count-true other x (passes x (λ e. omega arith)) ∙ ap suc (before-parity x (omega arith))
+
+  past-parity : (x : ℕ) → p < x → count other x + 1 ≡ x
+  past-parity zero l = absurd (omega arith)
+  past-parity (suc x) l = go (decided (eqb x p)) (λ h. past-parity x h)
+    where
+      go : (eqb x p ≡ true) ⊎ (eqb x p ≡ false) → (p < x → count other x + 1 ≡ x) → count other (suc x) + 1 ≡ suc x
+      go (inl e) ih = omega (arith, count-false other x (ap not e), before-parity x (omega (arith, eqb-true x p e)))
+      go (inr e) ih = let ne = eqb-false x p e in omega (arith, count-true other x (passes x ne), ih (omega arith))
+
+  others-before : (j : ℕ) → count other (positionOf p j) ≡ j
+  others-before j = go (side j)
+    where
+      go : Side j → count other (positionOf p j) ≡ j
+      go (left h o) = rw o (before-parity j (omega arith))
+      go (right h o) = rw o (omega (arith, past-parity (j + 1) (omega arith)))
+
+  pub position-nth : (j n : ℕ) → positionOf p j < n → positionOf p j ≡ nth other n j
+  position-nth j n l =
+      sym (nth-count other n (positionOf p j) l (passes _ (position-not-parity j))) ∙ ap (nth other n) (others-before j)
