@@ -1,7 +1,7 @@
 -- What the test of number 10 of document 01 says of a shelf value. Assumes nothing.
-use mathlib.Core.Path.{_≡_, sym, _∙_}
+use mathlib.Core.Path.{_≡_}
 use mathlib.Core.Logic.{_⊎_, inl, inr, _↔_}
-use mathlib.Core.Bool.{Bool, true, false, _||_, true≢false}
+use mathlib.Core.Bool.{Bool, true, false, _&&_, _||_}
 use mathlib.Core.List.{List, [], _∷_}
 use Prim.Native.Nat.{ℕ, zero, _*_, _≤_, _<_}
 use native.Mathlib.Omega.{arith}
@@ -14,7 +14,8 @@ use Rattle.design.specs.declared.Shelf.{Shelf}
 use Rattle.design.specs.Tuples.{before, shared, Different, disksBelow, noneTwice, disksEven, pairsEven}
 use Rattle.design.specs.Sheet.{withinLimits, Limits}
 use Rattle.design.specs.Shelf.{designIn, zeroPast, lossBelow, isShelf}
-use Rattle.design.proofs.Counting.{decided, both-of, fails, every-at, every-of}
+use Rattle.design.specs.inner.Table.{isTable}
+use Rattle.design.proofs.Counting.{decided, both-of, every-at, every-of}
 use Rattle.design.proofs.Tests.{joined, each-passes, limits, below-at, below-of, disks-even, pairs-even}
 use Rattle.design.proofs.Twice.{twice}
 
@@ -67,8 +68,17 @@ pub shelf-passes : (h : Shelf) → isShelf h ≡ true → (i : ℕ) → getD (sh
 unfolding isShelf joined
 shelf-passes h e = each-passes true (shelfTests h) e .1
 
-pub shelf-fails : (h : Shelf) (i : ℕ) → getD (shelfTests h) i true ≡ false → isShelf h ≡ false
-shelf-fails h i t = fails (isShelf h) (λ e. true≢false (sym (shelf-passes h e i) ∙ t))
+-- the tests on the table, between the limits and the loss
+pub shelf-parted : (h : Shelf)
+    → isShelf h
+    ≡ (withinLimits (h .v) (h .k) (h .b) (h .T) (h .u) && isTable (h .table) (h .v) (h .k) (h .b) (h .r) (h .lambda) && lossBelow (h .loss) (h .v))
+unfolding isShelf
+shelf-parted h = go (decided (withinLimits (h .v) (h .k) (h .b) (h .T) (h .u)))
+  where
+    go : (withinLimits (h .v) (h .k) (h .b) (h .T) (h .u) ≡ true) ⊎ (withinLimits (h .v) (h .k) (h .b) (h .T) (h .u) ≡ false)
+        → isShelf h ≡ (withinLimits (h .v) (h .k) (h .b) (h .T) (h .u) && isTable (h .table) (h .v) (h .k) (h .b) (h .r) (h .lambda) && lossBelow (h .loss) (h .v))
+    go (inl e) = rw e
+    go (inr e) = rw e
 
 pub shelf-parts : (h : Shelf) → isShelf h ≡ true → IsShelf h
 shelf-parts h e =

@@ -1,7 +1,7 @@
 -- What the tests behind rules 3, 5, 8 and 9 of document 01 say of the numbers and of the table. Assumes nothing.
 use mathlib.Core.Path.{_≡_, refl, sym, ap, _∙_}
 use mathlib.Core.Logic.{_↔_}
-use mathlib.Core.Bool.{Bool, true, _&&_}
+use mathlib.Core.Bool.{Bool, true, _&&_, false, true≢false}
 use mathlib.Core.List.{List, [], _∷_}
 use Prim.Native.Nat.{ℕ, zero, suc, _+_, _*_, _/_, _%_, _<_, min}
 use native.Mathlib.Nat.{div-add-mod', div-lt-iff-lt-mul, mod-lt, mul-zero}
@@ -14,7 +14,7 @@ use Rattle.design.specs.declared.Repeat.the-variants as Repeat
 use Rattle.design.specs.Count.{every}
 use Rattle.design.specs.Tuples.{Design, inTable, before, shared, disksBelow, disksEven, pairsEven}
 use Rattle.design.specs.Sheet.{withinLimits, Limits}
-use Rattle.design.proofs.Counting.{both, both-of, alike, every-at, every-of}
+use Rattle.design.proofs.Counting.{both, both-of, alike, every-at, every-of, fails}
 
 -- ---- tests joined by &&
 
@@ -35,6 +35,10 @@ each-passes x (y ∷ tests) e = go (each-passes (x && y) tests e)
         at : (i : ℕ) → getD (y ∷ tests) i true ≡ true
         at zero = both x y t .1
         at (suc i) = rest i
+
+-- one that fails is enough
+pub one-fails : (tests : List Bool) (i : ℕ) → getD tests i true ≡ false → joined true tests ≡ false
+one-fails tests i t = fails (joined true tests) (λ e. true≢false (sym (each-passes true tests e .1 i) ∙ t))
 
 -- ---- rule 3
 

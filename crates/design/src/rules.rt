@@ -7,6 +7,7 @@ ghost use Rattle.design.specs.Count.{every};
 ghost use Rattle.design.specs.Tuples.{inTable, repeated, noneTwice};
 ghost use Rattle.design.specs.Sheet.{withinLimits};
 ghost use Rattle.design.specs.Shelf.{zeroPast, lossBelow, isShelf};
+ghost use Rattle.design.specs.inner.Table.{isTable};
 use crate::Loss;
 use crate::Repeat;
 use crate::Shelf;
@@ -125,6 +126,27 @@ fn loss_below(loss: Loss, v: usize) -> bool
     }
 }
 
+// The part of number 10 that is on the table: zero past b·k, and rules 5, 6, 8 and 9.
+fn is_table(table: &Table, v: usize, k: usize, b: usize, r: usize, lambda: usize) -> bool
+    requires { ⌜ (2 ≤ k) × (v ≤ 64) × (b * k ≤ 2048) ⌝ }
+    ensures { λ kept. ⌜ kept ≡ isTable (now (table .entry)) v k b r lambda ⌝ }
+{
+    if !zero_past(table, b * k) {
+        return false;
+    }
+    if !disks_below(table, b * k, v) {
+        return false;
+    }
+    if !none_twice(table, k, b) {
+        return false;
+    }
+    let counts = tally::tally(table, k, b);
+    if !tally::disks_even(&counts, v, r) {
+        return false;
+    }
+    tally::pairs_even(&counts, v, lambda)
+}
+
 // Number 10, by the same tests as opening.
 pub fn is_shelf(shelf: Shelf) -> bool
     ensures { λ r. ⌜ r ≡ isShelf shelf ⌝ }
@@ -135,21 +157,7 @@ pub fn is_shelf(shelf: Shelf) -> bool
     if !within_limits(v, k, b, shelf.T, shelf.u) {
         return false;
     }
-    let n = b * k;
-    if !zero_past(&shelf.table, n) {
-        return false;
-    }
-    if !disks_below(&shelf.table, n, v) {
-        return false;
-    }
-    if !none_twice(&shelf.table, k, b) {
-        return false;
-    }
-    let counts = tally::tally(&shelf.table, k, b);
-    if !tally::disks_even(&counts, v, shelf.r) {
-        return false;
-    }
-    if !tally::pairs_even(&counts, v, shelf.lambda) {
+    if !is_table(&shelf.table, v, k, b, shelf.r, shelf.lambda) {
         return false;
     }
     let loss = shelf.loss;
