@@ -1,23 +1,26 @@
 //! Printing a layout of a million stripes, each program in a process of its own.
 
+use crate::figures::{hand_on, LIBRARY, PLAIN};
 use crate::sheets::sheet;
-use crate::time::{best, milliseconds, ratio, timed};
+use crate::time::{contestant, timed_programs, Clock};
 use std::fs::File;
 use std::path::{Path, PathBuf};
 use std::process::{Command, Stdio};
 use std::time::Duration;
 
-pub fn million() {
+pub fn measure(clock: &Clock) {
     // 9,524 full tables of 105 stripes.
     let sheet = sheet("projective plane of order 4", 9524, 12);
     let path = std::env::temp_dir().join(format!("shqemtuli-bench-{}", std::process::id()));
     std::fs::write(&path, &sheet).expect("a temporary file");
-    println!("\nPrinting the layout of 1,000,020 stripes of 5 units");
     let ours = program();
     if ours.exists() {
-        compare(&ours, &path);
+        compare(clock, &ours, &path);
     } else {
-        println!("  not measured: there is no {}", ours.display());
+        eprintln!(
+            "The layout program is not measured: there is no {}.",
+            ours.display()
+        );
     }
     std::fs::remove_file(&path).ok();
 }
@@ -30,18 +33,24 @@ fn program() -> PathBuf {
     }
 }
 
-fn compare(ours: &Path, sheet: &Path) {
+fn compare(clock: &Clock, ours: &Path, sheet: &Path) {
     let own = std::env::current_exe().expect("this program");
     let (ours, plain) = ((ours, None), (own.as_path(), Some("plain-layout")));
     let text = output(ours, sheet);
     assert!(text == output(plain, sheet), "the layouts differ");
-    let [library, plain] = best([&mut || run(ours, sheet), &mut || run(plain, sheet)]);
-    let rate = text.len() as f64 / 1e6 / library.as_secs_f64();
-    println!(
-        "  print_layout {:8.1} ms ({rate:.0} MB/s)   plain Rust {:8.1} ms   ratio {:.2}",
-        milliseconds(library),
-        milliseconds(plain),
-        ratio(library, plain),
+    let fewer = Clock {
+        runs: clock.runs / 5,
+    };
+    let times = fewer.best([
+        contestant(|| run(ours, sheet)),
+        contestant(|| run(plain, sheet)),
+    ]);
+    hand_on(
+        "layout",
+        &text.len().to_string(),
+        1,
+        [LIBRARY, PLAIN],
+        times,
     );
 }
 
@@ -63,5 +72,5 @@ fn output(program: Program, sheet: &Path) -> Vec<u8> {
 fn run(program: Program, sheet: &Path) -> Duration {
     let mut command = command(program, sheet);
     command.stdout(Stdio::null());
-    timed(|| assert!(command.status().expect("it runs").success()))
+    timed_programs(|| assert!(command.status().expect("it runs").success()))
 }

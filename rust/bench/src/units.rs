@@ -1,111 +1,101 @@
-//! Unit write and read, per call, beside plain Rust with the same checks.
+//! Unit calls, beside plain Rust with the same checks, on the smallest shelf and on one of 64 disks.
 
+use crate::calls::calls;
+use crate::figures::{hand_on, LIBRARY, PLAIN};
+use crate::memory::Bytes;
 use crate::plain;
-use crate::sheets::{image, sheet};
-use crate::time::{best, nanoseconds, ratio, timed};
+use crate::sheets::sheet;
+use crate::time::{contestant, Clock};
 use designs::Random;
 use shqemtuli::Shelf;
-use std::hint::black_box;
 use std::time::Duration;
 
 /// How many calls are timed together.
-const CALLS: usize = 2000;
+const CALLS: usize = 100;
 
-pub fn per_call() {
-    println!("\nUnit write and read, nanoseconds for a call; rules 10 to 13 tried in each");
-    println!("    v   k     b   u  call                  library    plain   ratio");
+pub fn measure(clock: &Clock) {
     for name in ["all 3 of 4", "(64,16,5) planes"] {
         for u in [12, 9, 0] {
             let mut pair = Pair::new(name, u);
-            pair.writes();
-            pair.reads("read");
-            pair.ours.lose(0).unwrap();
+            pair.writes(clock);
+            pair.reads(clock, "read");
+            pair.shelf.lose(0).unwrap();
             pair.plain.lost = Some(0);
-            pair.reads("read, disk 0 lost");
+            pair.reads(clock, "read, disk 0 lost");
         }
     }
 }
 
 struct Pair {
-    ours: Shelf,
+    shelf: Shelf,
     plain: plain::Shelf,
-    image: Vec<u8>,
-    twin: Vec<u8>,
+    image: Bytes,
+    twin: Bytes,
     addresses: Vec<u64>,
 }
 
 impl Pair {
     fn new(name: &str, u: u64) -> Pair {
         let sheet = sheet(name, 1, u);
-        let ours = Shelf::open(&sheet).unwrap();
-        let image = image(ours.image_size());
+        let shelf = Shelf::open(&sheet).unwrap();
+        let image = Bytes::random(shelf.image_size() as usize);
         let mut random = Random::new(u);
         Pair {
             plain: plain::sheet::open(&sheet).unwrap(),
-            twin: image.clone(),
+            twin: image.twin(),
             image,
-            addresses: (0..CALLS).map(|_| random.below(ours.addresses())).collect(),
-            ours,
+            addresses: (0..CALLS)
+                .map(|_| random.below(shelf.addresses()))
+                .collect(),
+            shelf,
         }
     }
 
-    fn writes(&mut self) {
-        let unit = image(self.ours.unit_size());
-        let times = best([
-            &mut || {
-                timed(|| {
-                    for &address in &self.addresses {
-                        black_box(self.ours.write(&mut self.image, address, &unit)).unwrap();
-                    }
+    fn writes(&mut self, clock: &Clock) {
+        let Pair {
+            shelf,
+            plain,
+            image,
+            twin,
+            addresses,
+        } = self;
+        let unit = &Bytes::random(plain.unit());
+        let times = clock.best([
+            contestant(|| calls(&*addresses, |&a| shelf.write(image, a, unit).unwrap())),
+            contestant(|| {
+                calls(&*addresses, |&a| {
+                    plain.write(twin, a as usize, unit).unwrap()
                 })
-            },
-            &mut || {
-                timed(|| {
-                    for &address in &self.addresses {
-                        let address = address as usize;
-                        black_box(self.plain.write(&mut self.twin, address, &unit)).unwrap();
-                    }
-                })
-            },
+            }),
         ]);
-        assert!(self.image == self.twin, "the images differ");
-        self.print("write", times);
+        assert!(**image == **twin, "the images differ");
+        self.hand_on("write", times);
     }
 
-    fn reads(&self, name: &str) {
-        let size = self.ours.unit_size() as usize;
-        let (mut unit, mut other) = (vec![0; size], vec![0; size]);
-        let times = best([
-            &mut || {
-                timed(|| {
-                    for &address in &self.addresses {
-                        black_box(self.ours.read(&self.image, address, &mut unit)).unwrap();
-                    }
+    fn reads(&self, clock: &Clock, call: &str) {
+        let Pair {
+            shelf,
+            plain,
+            image,
+            twin,
+            addresses,
+        } = self;
+        let [mut one, mut two] = [0; 2].map(|_| Bytes::zeros(plain.unit()));
+        let times = clock.best([
+            contestant(|| calls(addresses, |&a| shelf.read(image, a, &mut one).unwrap())),
+            contestant(|| {
+                calls(addresses, |&a| {
+                    plain.read(twin, a as usize, &mut two).unwrap()
                 })
-            },
-            &mut || {
-                timed(|| {
-                    for &address in &self.addresses {
-                        let address = address as usize;
-                        black_box(self.plain.read(&self.twin, address, &mut other)).unwrap();
-                    }
-                })
-            },
+            }),
         ]);
-        assert_eq!(unit, other);
-        self.print(name, times);
+        assert!(*one == *two, "the units differ");
+        self.hand_on(call, times);
     }
 
-    fn print(&self, name: &str, [ours, plain]: [Duration; 2]) {
-        println!(
-            "  {:3}  {:2}  {:4}  {:2}  {name:20} {:8.0} {:8.0}   {:5.2}",
-            self.ours.v(),
-            self.ours.k(),
-            self.ours.b(),
-            self.ours.u(),
-            nanoseconds(ours, CALLS),
-            nanoseconds(plain, CALLS),
-            ratio(ours, plain),
-        );
+    fn hand_on(&self, call: &str, times: [Option<Duration>; 2]) {
+        let plain = &self.plain;
+        let head = format!("{}|{}|{}|{}|{call}", plain.v, plain.k, plain.b, plain.u);
+        hand_on("units", &head, CALLS as u64, [LIBRARY, PLAIN], times);
     }
 }

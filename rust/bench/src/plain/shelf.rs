@@ -94,6 +94,19 @@ impl Shelf {
         (disk, row * self.r + before)
     }
 
+    /// The byte at which the unit at a position of a stripe begins.
+    pub fn start(&self, ranks: &[usize], stripe: usize, position: usize) -> usize {
+        let entry = stripe % self.b * self.k + position;
+        self.byte(self.table[entry], stripe / self.b * self.r + ranks[entry])
+    }
+
+    /// The stripe of an address and the position of its unit.
+    pub fn position(&self, address: usize) -> (usize, usize) {
+        let (stripe, j) = (address / (self.k - 1), address % (self.k - 1));
+        let step = usize::from(j >= self.parity(stripe));
+        (stripe, j + step)
+    }
+
     /// The position of a stripe's parity.
     pub fn parity(&self, stripe: usize) -> usize {
         self.k - 1 - stripe / self.b % self.k

@@ -1,4 +1,4 @@
-//! Unit write and read, with rules 10 to 13 tried in each call.
+//! Unit write, stripe write and read, with rules 10 to 13 tried in each call.
 
 use super::Shelf;
 
@@ -20,9 +20,7 @@ impl Shelf {
         if unit != self.unit() {
             return Err(13);
         }
-        let (stripe, j) = (address / (self.k - 1), address % (self.k - 1));
-        let step = usize::from(j >= self.parity(stripe));
-        Ok((stripe, j + step))
+        Ok(self.position(address))
     }
 
     fn at(&self, stripe: usize, position: usize) -> usize {
@@ -56,6 +54,44 @@ impl Shelf {
             *data = new;
         }
         Ok((2, 2))
+    }
+
+    pub fn write_stripe(
+        &self,
+        image: &mut [u8],
+        stripe: usize,
+        buffer: &[u8],
+    ) -> Result<Cost, u64> {
+        if !self.is_shelf() {
+            return Err(10);
+        }
+        if image.len() != self.image() {
+            return Err(11);
+        }
+        if stripe >= self.stripes() {
+            return Err(12);
+        }
+        if buffer.len() != (self.k - 1) * self.unit() {
+            return Err(13);
+        }
+        let parity = self.parity(stripe);
+        let data = (0..self.k).filter(|&position| position != parity);
+        let mut written = 0;
+        for (position, unit) in data.zip(buffer.chunks_exact(self.unit())) {
+            if !self.is_lost(stripe, position) {
+                image[self.at(stripe, position)..][..unit.len()].copy_from_slice(unit);
+                written += 1;
+            }
+        }
+        if !self.is_lost(stripe, parity) {
+            let sum = &mut image[self.at(stripe, parity)..][..self.unit()];
+            sum.fill(0);
+            for unit in buffer.chunks_exact(sum.len()) {
+                mix(sum, unit);
+            }
+            written += 1;
+        }
+        Ok((0, written))
     }
 
     pub fn read(&self, image: &[u8], address: usize, buffer: &mut [u8]) -> Result<Cost, u64> {
