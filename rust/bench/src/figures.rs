@@ -52,6 +52,23 @@ impl Row {
         self.times.get(name).map(|time| time - floor)
     }
 
+    /// Of two times of one contestant the shorter one counts, and with it the floor that was measured beside it.
+    fn take_best(&mut self, other: &Row) {
+        let better = |name: &String| match self.times.get(name) {
+            Some(known) => other.times[name] < *known,
+            None => true,
+        };
+        let contestant = |name: &&String| !name.ends_with(FLOOR) && better(name);
+        let names: Vec<&String> = other.times.keys().filter(contestant).collect();
+        for name in names {
+            for name in [name.clone(), floor_of(name)] {
+                if let Some(&time) = other.times.get(&name) {
+                    self.times.insert(name, time);
+                }
+            }
+        }
+    }
+
     /// Nanoseconds for one call, or for one byte.
     pub fn for_each(&self, name: &str) -> Option<f64> {
         self.nanoseconds(name).map(|time| time / self.amount)
@@ -65,8 +82,10 @@ impl Row {
 
 /// The contestant that does only what every call of another one begins with.
 pub fn floor_of(name: &str) -> String {
-    format!("{name}, floor")
+    name.to_string() + FLOOR
 }
+
+const FLOOR: &str = ", floor";
 
 impl Figures {
     pub fn of(text: &str) -> Figures {
@@ -106,7 +125,7 @@ impl Figures {
         std::fs::write(path, text).expect("written");
     }
 
-    /// Takes rows over; of two times of one contestant the shorter one counts.
+    /// Takes rows over; of two rows with one head the best counts.
     pub fn take_best(&mut self, other: Figures) {
         for key in other.order {
             let row = other.rows[&key].clone();
@@ -116,12 +135,7 @@ impl Figures {
 
     fn put(&mut self, key: Key, row: Row) {
         match self.rows.get_mut(&key) {
-            Some(known) => {
-                for (name, time) in row.times {
-                    let best = known.times.entry(name).or_insert(time);
-                    *best = best.min(time);
-                }
-            }
+            Some(known) => known.take_best(&row),
             None => {
                 self.order.push(key.clone());
                 self.rows.insert(key, row);

@@ -1,10 +1,10 @@
-//! Memory at a boundary: ISA-L asks for buffers at multiples of 32 bytes, and where an image begins has an effect on its speed.
+//! Memory at a boundary: on x86-64 ISA-L asks for buffers at multiples of 32 bytes.
 
 use designs::Random;
 use std::ops::{Deref, DerefMut};
 
 /// Every buffer that is measured begins at a multiple of this.
-const BOUNDARY: usize = 1 << 21;
+const BOUNDARY: usize = 4096;
 
 /// Bytes that begin at a boundary.
 pub struct Bytes {

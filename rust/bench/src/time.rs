@@ -19,19 +19,38 @@ pub fn contestant<'a>(run: impl FnMut() -> Duration + 'a) -> Contestant<'a> {
 
 impl Clock {
     /// The best time of each contestant. Each runs twice before the next has its turn: what another one leaves in the caches is
-    /// gone by the second time.
+    /// gone by the second time. The stack stands at another place of a cache line in each run (docs/BENCHMARKS.md says why).
     pub fn best<const N: usize>(&self, mut contestants: [Contestant; N]) -> [Option<Duration>; N] {
         let mut best = [None; N];
-        for _ in 0..self.runs {
+        for run in 0..self.runs {
             for (contestant, best) in contestants.iter_mut().zip(&mut best) {
                 for _ in 0..2 {
-                    let taken = contestant.as_mut().map(|run| run());
+                    let taken = contestant.as_mut().map(|work| lower(run, work));
                     *best = best.map_or(taken, |best| taken.map(|taken| taken.min(best)));
                 }
             }
         }
         best
     }
+}
+
+/// Does the work with the stack lower by 0, 16, 32 or 48 bytes, run after run.
+fn lower(run: usize, work: &mut dyn FnMut() -> Duration) -> Duration {
+    match run % 4 {
+        0 => lower_by::<16>(work),
+        1 => lower_by::<32>(work),
+        2 => lower_by::<48>(work),
+        _ => lower_by::<64>(work),
+    }
+}
+
+#[inline(never)]
+fn lower_by<const BYTES: usize>(work: &mut dyn FnMut() -> Duration) -> Duration {
+    let room = [0u8; BYTES];
+    black_box(&room);
+    let taken = work();
+    black_box(&room);
+    taken
 }
 
 /// How long the work takes; what it gives counts as used.
