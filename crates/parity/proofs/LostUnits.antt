@@ -16,11 +16,12 @@ use Rattle.design.specs.declared.Shelf.{Shelf}
 use Rattle.design.specs.Count.{count, nth}
 use Rattle.design.specs.Shelf.{isShelf}
 use Rattle.design.proofs.Counting.{alike, count-le}
+use Rattle.placement.specs.Entries.{isDisk}
 use Rattle.placement.specs.Layout.{layoutIn, stripes, parityOf, stripeAt, positionAt}
 use Rattle.placement.proofs.Even.{Even, even-shelf}
 use Rattle.placement.proofs.Row.{parity-row}
 use Rattle.placement.proofs.Undo.{row-there}
-use Rattle.placement.proofs.Flat.{isDisk, some-left, stripe-found, position-found}
+use Rattle.placement.proofs.Flat.{some-left, stripe-found, position-found}
 use Rattle.parity.specs.declared.Shape.{Shape}
 use Rattle.parity.specs.Units.{zeros, put}
 use Rattle.parity.specs.Stripe.{unitSize, depth, units, imageSize, unitIn, diskAt, stripeHere, indexHere, presentOn, present, others}

@@ -18,14 +18,11 @@ use Rattle.design.specs.Shelf.{designIn, isShelf}
 use Rattle.design.proofs.Counting.{fails, count-true, count-false, count-add, count-none, Nth, nth-is, nth-count}
 use Rattle.design.proofs.Sums.{sum-ext, count-sum}
 use Rattle.design.proofs.Design.{has-once}
+use Rattle.placement.specs.Entries.{isDisk}
 use Rattle.placement.specs.Layout.{layoutIn, tupleAt, stripeAt, positionAt}
 use Rattle.placement.proofs.Held.{holds-disk}
 use Rattle.placement.proofs.Even.{Even, even-shelf}
 use Rattle.placement.proofs.Rows.{count-rows}
-
--- entry i is disk d
-abbrev pub isDisk : List ℕ → ℕ → ℕ → Bool
-isDisk table d i = eqb (getD table i 0) d
 
 -- a loop's step: entry i is counted, or passed over
 pub times-counted : (table : List ℕ) (d i : ℕ) → getD table i 0 ≡ d → count (isDisk table d) (i + 1) ≡ suc (count (isDisk table d) i)

@@ -19,5 +19,6 @@ pub mod Unique
 pub mod Flat
 pub mod Bounds
 pub mod Splits
+pub mod PerEntry
 pub mod Ranks
 pub mod Listing

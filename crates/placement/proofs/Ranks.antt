@@ -1,6 +1,6 @@
--- Laws of the pass that ranks the entries: what the counts and the ranks hold after the first i entries. Assumes nothing.
+-- The pass that ranks the entries: what its counts hold after the first i. Assumes nothing.
 use mathlib.Core.Path.{_≡_, sym, _∙_}
-use mathlib.Core.Logic.{_⊎_, inl, inr, _≢_}
+use mathlib.Core.Logic.{_⊎_, inl, inr}
 use mathlib.Core.Bool.{true, false, cond}
 use mathlib.Core.List.{List}
 use Prim.Native.Nat.{ℕ, _+_, _<_}
@@ -12,7 +12,7 @@ use borrow.Author.Tests.{eqb-true, eqb-false}
 use Rattle.design.specs.Count.{count}
 use Rattle.design.proofs.Counting.{decided}
 use Rattle.design.proofs.Sums.{count-next}
-use Rattle.placement.proofs.Flat.{isDisk}
+use Rattle.placement.specs.Entries.{isDisk}
 
 -- entry i is raised by one
 getD-raised : (l : List ℕ) (i x : ℕ) → i < length l → getD (set l i (getD l i 0 + 1)) x 0 ≡ getD l x 0 + cond (eqb i x) 1 0
@@ -26,10 +26,6 @@ getD-raised l i x h = go (decided (eqb i x))
 abbrev pub Counted : List ℕ → ℕ → List ℕ → Type 0
 Counted table i counts = (d : ℕ) → d < 64 → getD counts d 0 ≡ count (isDisk table d) i
 
--- how many entries before each are its disk
-abbrev pub Ranked : List ℕ → ℕ → List ℕ → Type 0
-Ranked table i ranks = (x : ℕ) → x < i → getD ranks x 0 ≡ count (isDisk table (getD table x 0)) x
-
 pub counted-none : (table : List ℕ) → Counted table 0 (replicate 64 0)
 unfolding count
 counted-none table d h = getD-replicate 64 d 0 0 h
@@ -38,13 +34,3 @@ pub counted-next : (table : List ℕ) (i : ℕ) (counts : List ℕ) → getD tab
     → Counted table (i + 1) (set counts (getD table i 0) (getD counts (getD table i 0) 0 + 1))
 counted-next table i counts h so-far d l =
     omega (arith, getD-raised counts (getD table i 0) d h, so-far d l, count-next (isDisk table d) i)
-
-pub ranked-next : (table : List ℕ) (i rank : ℕ) (ranks : List ℕ) → i < length ranks → rank ≡ count (isDisk table (getD table i 0)) i → Ranked table i ranks
-    → Ranked table (i + 1) (set ranks i rank)
-ranked-next table i rank ranks h is so-far x l = go (decided (eqb x i))
-  where
-    go : (eqb x i ≡ true) ⊎ (eqb x i ≡ false) → getD (set ranks i rank) x 0 ≡ count (isDisk table (getD table x 0)) x
-    go (inl e) = rw (eqb-true x i e) (getD-set-same ranks i rank 0 h ∙ is)
-    go (inr e) =
-        let ne : x ≢ i = eqb-false x i e in
-        getD-set-other ranks i x rank 0 ne ∙ so-far x (omega arith)

@@ -2,11 +2,10 @@
 ghost use mathlib.Core.Path.{_≡_};
 ghost use mathlib.Core.Bool.{true};
 ghost use Prim.Native.Nat.{ℕ, _+_, _*_, _^_, _≤_, _<_};
-ghost use lib.Dec.{eqb};
 ghost use lib.ListN.{getD};
-ghost use Rattle.design.specs.Count.{count, nth};
 ghost use Rattle.design.specs.Shelf.{isShelf};
 ghost use Rattle.placement.specs.Layout.{layoutIn, stripes, addresses, offsets, splitOf, SplitIn, placeIn};
+ghost use Rattle.placement.specs.Entries.{ranksOf, entriesOf};
 ghost use Rattle.placement.specs.Placed.{spotOf, standsAt};
 use crate::LookUp;
 use crate::Spot;
@@ -131,11 +130,11 @@ pub fn stands_at(shelf: Shelf, disk: usize, offset: usize) -> LookUp
 }
 
 // For each of the first n entries of the table, how many entries before it have the same disk: as no tuple has a disk
-// twice, the number of tuples before its own that hold its disk. One pass for a whole rebuild or print.
+// twice, the number of tuples before its own that hold its disk; zero for the others. One pass for a whole rebuild or print.
 pub fn ranks(table: &Table, n: usize) -> PerEntry
     requires { ⌜ (n ≤ 2048) ⌝ }
     requires { ⌜ ((i : ℕ) → i < n → getD (now table) i 0 < 64) ⌝ }
-    ensures { λ r. ⌜ ((i : ℕ) → i < n → getD r i 0 ≡ count (λ j. eqb (getD (now (table .entry)) j 0) (getD (now (table .entry)) i 0)) i) ⌝ }
+    ensures { λ r. ⌜ r ≡ ranksOf (now (table .entry)) n ⌝ }
 {
     let mut counts = [0u16; Shelf::V_MOST];
     let mut ranks = [0u16; Shelf::PLACES_MOST];
@@ -147,11 +146,11 @@ pub fn ranks(table: &Table, n: usize) -> PerEntry
     ranks
 }
 
-// The entries of the first n that are disk d, in their order: entry m is the one that has m such before it. One pass for a
-// whole rebuild.
+// The entries of the first n that are disk d, in their order: entry m is the one that has m such before it; then zeros. One
+// pass for a whole rebuild.
 pub fn entries(table: &Table, n: usize, d: u8) -> PerEntry
     requires { ⌜ n ≤ 2048 ⌝ }
-    ensures { λ r. ⌜ ((m : ℕ) → m < count (λ i. eqb (getD (now (table .entry)) i 0) d) n → getD r m 0 ≡ nth (λ i. eqb (getD (now (table .entry)) i 0) d) n m) ⌝ }
+    ensures { λ r. ⌜ r ≡ entriesOf (now (table .entry)) n d ⌝ }
 {
     let mut entries = [0u16; Shelf::PLACES_MOST];
     let mut found: usize = 0;

@@ -1,10 +1,12 @@
 -- `layout::write::lines` meets its contract. The loop's invariant: the lines of the first i stripes are written. Assumes nothing.
 use mathlib.Core.Path.{_≡_}
-use Prim.Native.Nat.{_-_, _≤_}
+use Prim.Native.Nat.{_-_, _*_, _≤_}
 use native.Mathlib.Omega.{arith}
 use Rattle.design.proofs.ShelfTests.{shelf-parts}
 use Rattle.placement.proofs.Bounds.{bounds}
+use Rattle.placement.proofs.PerEntry.{ranks-at}
 use Rattle.layout.specs.Text.{joined}
+use Rattle.layout.specs.inner.Steps.{Ranked}
 use Rattle.layout.proofs.Puts.{put-nothing}
 use Rattle.layout.proofs.Printing.{Printed, reckoned, line-fits, printed-next, printed-length, printed-all}
 use Rattle.layout.proofs.write.lines.Statement.{statement}
@@ -18,6 +20,9 @@ abbrev μ-loop : tie.MeasureT-loop
 
 abbrev start : tie.After-ranks Inv-loop μ-loop → tie.Start Inv-loop μ-loop
 start c = c .before .before .before .before
+
+ranked : (c : tie.After-ranks Inv-loop μ-loop) → Ranked (start c .args .shelf .table) (start c .args .shelf .b * start c .args .shelf .k) (c .ranks .result)
+ranked c = ranks-at (start c .args .shelf .table) _ (c .ranks .ensures) (shelf-parts (start c .args .shelf) (start c .pre .0) .limits .places)
 
 mul-ranks : tie.Need-mul-ranks Inv-loop μ-loop
 mul-ranks c =
@@ -45,7 +50,7 @@ line-requires c κs =
     let t = c .before .before .before in
     let s = start (t .before .before) in
     let h = s .args .shelf in (
-      line-fits h (s .pre .0) (s .args .first) (s .args .n) (s .pre .1) (t .before .before .ranks .result) (t .before .before .ranks .ensures) (s .pre .2) (t .before .loop .i) (t .before .loop .inv .0) (t .loop-test .taken),
+      line-fits h (s .pre .0) (s .args .first) (s .args .n) (s .pre .1) (t .before .before .ranks .result) (ranked (t .before .before)) (s .pre .2) (t .before .loop .i) (t .before .loop .inv .0) (t .loop-test .taken),
       reckoned h (s .pre .0) (s .args .first) (s .args .n) (s .pre .1) (t .before .loop .i) (t .loop-test .taken),
     )
 
@@ -60,7 +65,7 @@ loop-again c =
     let t = c .before .before .before .before .before .before in
     let s = start (t .before .before) in
     let h = s .args .shelf in (
-      printed-next h (s .pre .0) (s .args .first) (s .args .n) (s .pre .1) (t .before .before .ranks .result) (t .before .before .ranks .ensures) (s .pre .2)
+      printed-next h (s .pre .0) (s .args .first) (s .args .n) (s .pre .1) (t .before .before .ranks .result) (ranked (t .before .before)) (s .pre .2)
           (t .before .loop .i)
           (t .before .loop .inv .0)
           (t .loop-test .taken)
@@ -71,7 +76,7 @@ loop-again c =
 same-length : tie.Need-same-length Inv-loop μ-loop
 same-length c =
     let s = start (c .before .before) in
-    printed-length (s .args .shelf) (s .pre .0) (s .args .first) (s .args .n) (s .pre .1) (c .before .before .ranks .result) (c .before .before .ranks .ensures) (s .pre .2)
+    printed-length (s .args .shelf) (s .pre .0) (s .args .first) (s .args .n) (s .pre .1) (c .before .before .ranks .result) (ranked (c .before .before)) (s .pre .2)
     (c .before .loop .i)
     (c .before .loop .inv .0)
     (c .before .loop .inv .1)
@@ -80,7 +85,7 @@ returns : tie.Need-returns Inv-loop μ-loop
 returns c =
     let s = start (c .before .before) in
     let e : c .before .loop .i ≡ s .args .n = omega (arith, c .before .loop .inv .1, c .loop-test .left) in
-    printed-all (s .args .shelf) (s .pre .0) (s .args .first) (s .args .n) (s .pre .1) (c .before .before .ranks .result) (c .before .before .ranks .ensures) (s .pre .2)
+    printed-all (s .args .shelf) (s .pre .0) (s .args .first) (s .args .n) (s .pre .1) (c .before .before .ranks .result) (ranked (c .before .before)) (s .pre .2)
     (c .before .loop .i)
     (c .before .loop .inv .0)
     e

@@ -9,6 +9,7 @@ use Rattle.design.specs.declared.Shelf.{Shelf}
 use Rattle.placement.specs.Layout.{layoutIn}
 use Rattle.placement.proofs.Even.{Even, even-shelf}
 use Rattle.placement.proofs.Bounds.{bounds}
+use Rattle.placement.proofs.PerEntry.{entries-at}
 use Rattle.parity.specs.declared.Shape.{Shape}
 use Rattle.parity.specs.Stripe.{depth}
 use Rattle.parity.proofs.Ready.{entries-fit}
@@ -36,7 +37,7 @@ prepared c = record {
   ok = start c .pre .shelf;
   gone = told c .loss .given .1;
   ranked = c .before .before .before .before .ranks-of .ensures;
-  listed = c .before .entries .ensures;
+  listed = entries-at _ _ _ (c .before .entries .ensures) (entries-fit (start c .args .shelf) (start c .pre .shelf));
   shape-is = c .shape-of .ensures;
 }
 

@@ -3,10 +3,11 @@ use mathlib.Core.Path.{_≡_, subst}
 use mathlib.Core.Logic.{⊎-elim}
 use Prim.Native.Nat.{ℕ, _-_, _≤_, _<_}
 use native.Mathlib.Omega.{arith}
-use lib.ListN.{getD}
 use borrow.Author.Tests.{eq-eqb, ne-eqb}
 use Rattle.design.specs.Count.{count, nth}
-use Rattle.placement.proofs.Flat.{isDisk}
+use Rattle.design.proofs.Reading.{Filled}
+use Rattle.placement.specs.Entries.{isDisk, perEntry, entriesOf}
+use Rattle.placement.proofs.PerEntry.{filled-per-entry}
 use Rattle.placement.proofs.Listing.{Listing, listing-none, listing-same, listing-more, listing-le}
 use Rattle.placement.proofs.fast.entries.Statement.{statement}
 use Rattle.placement.proofs.fast.entries.Tie as tie
@@ -36,21 +37,22 @@ add-found c = omega (arith, found-lt c)
 
 loop-again : tie.Need-loop-again Inv-loop μ-loop
 loop-again c =
-    let l = c .before .before .before .loop in
-    let more : l .i < 2048 = omega (arith, c .before .before .before .before .pre) in (
+    let l = c .before .before .before .loop in (
       omega arith,
       ⊎-elim
-          (λ w. rw (w .1, w .2) (listing-more _ _ (l .i) (l .entries) (l .found) (l .inv .1) more (eq-eqb _ _ (w .0 .taken))))
+          (λ w. rw (w .1, w .2) (listing-more _ _ (l .i) (l .entries) (l .found) (l .inv .1) (eq-eqb _ _ (w .0 .taken))))
           (λ w. rw (w .1, w .2) (listing-same _ _ (l .i) (l .entries) (l .found) (l .inv .1) (ne-eqb _ _ (w .0 .left))))
           (c .if1 .came),
     )
 
 returns : tie.Need-returns Inv-loop μ-loop
+unfolding entriesOf
 returns c =
     let l = c .before .loop in
     let e : l .i ≡ c .before .before .args .n = omega arith in
     let f = isDisk (c .before .before .args .table .now) (c .before .before .args .d) in
-    subst (λ (n : ℕ). (m : ℕ) → m < count f n → getD (l .entries) m 0 ≡ nth f n m) e (l .inv .1 .listed)
+    let all : Filled (nth f (l .i)) (count f (l .i)) (l .entries) = subst (λ (m : ℕ). Filled (nth f (l .i)) m (l .entries)) (l .inv .1 .found-is) (l .inv .1 .listed) in
+    subst (λ (n : ℕ). l .entries ≡ perEntry (count f n) (nth f n)) e (filled-per-entry (count f (l .i)) (nth f (l .i)) (l .entries) (l .inv .1 .size) all)
 
 pub entries-spec : {M : Type 1} → statement M
 entries-spec =

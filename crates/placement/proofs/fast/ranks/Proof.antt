@@ -1,18 +1,20 @@
 -- `placement::fast::ranks` meets its contract. The loop's invariant: the entries passed are counted and ranked. The measure is what is
 -- left of n. Assumes nothing.
-use mathlib.Core.Path.{_≡_, refl}
-use Prim.Native.Nat.{_-_, _≤_, _<_}
+use mathlib.Core.Path.{_≡_, refl, subst}
+use Prim.Native.Nat.{ℕ, _-_, _≤_, _<_}
 use native.Mathlib.Omega.{arith}
 use lib.ListN.{length, getD, length-set}
 use Rattle.design.proofs.Counting.{count-le}
-use Rattle.placement.proofs.Flat.{isDisk}
-use Rattle.placement.proofs.Ranks.{Counted, Ranked, counted-none, counted-next, ranked-next}
+use Rattle.design.proofs.Reading.{Filled, filled-none, filled-more}
+use Rattle.placement.specs.Entries.{isDisk, rankIn, ranksOf}
+use Rattle.placement.proofs.PerEntry.{filled-per-entry}
+use Rattle.placement.proofs.Ranks.{Counted, counted-none, counted-next}
 use Rattle.placement.proofs.fast.ranks.Statement.{statement}
 use Rattle.placement.proofs.fast.ranks.Tie as tie
 
 abbrev Inv-loop : tie.InvT-loop
 Inv-loop table n counts₀ ranks₀ i₀ counts ranks i =
-    (i ≤ n) × (length counts ≡ 64) × (length ranks ≡ 2048) × Counted table i counts × Ranked table i ranks
+    (i ≤ n) × (length counts ≡ 64) × (length ranks ≡ 2048) × Counted table i counts × Filled (rankIn table) i ranks
 
 abbrev μ-loop : tie.MeasureT-loop
 μ-loop table n counts₀ ranks₀ i₀ counts ranks i = n - i
@@ -21,7 +23,7 @@ below : (c : tie.In-loop Inv-loop μ-loop) → getD (c .before .before .args .ta
 below c = c .before .before .pre .1 (c .before .loop .i) (c .loop-test .taken)
 
 loop-holds : tie.Need-loop-holds Inv-loop μ-loop
-loop-holds c = (omega arith, refl, refl, counted-none (c .args .table .now), λ x l. absurd (omega arith))
+loop-holds c = (omega arith, refl, refl, counted-none (c .args .table .now), filled-none _)
 
 cast-disk : tie.Need-cast-disk Inv-loop μ-loop
 cast-disk c = omega (arith, below (c .before))
@@ -58,11 +60,16 @@ loop-again c =
       simp length-set counts,
       simp length-set ranks,
       counted-next table (a .loop .i) (a .loop .counts) (omega (arith, below (c .before))) (a .loop .inv .3),
-      ranked-next table (a .loop .i) _ (a .loop .ranks) (omega arith) (a .loop .inv .3 _ (below (c .before))) (a .loop .inv .4),
+      filled-more (rankIn table) (a .loop .i) (a .loop .ranks) _ ranks (a .loop .inv .3 _ (below (c .before))) (a .loop .inv .4),
     )
 
 returns : tie.Need-returns Inv-loop μ-loop
-returns c = λ i l. c .before .loop .inv .4 i (omega arith)
+unfolding ranksOf
+returns c =
+    let l = c .before .loop in
+    let table = c .before .before .args .table .now in
+    let e : l .i ≡ c .before .before .args .n = omega arith in
+    filled-per-entry _ (rankIn table) (l .ranks) (l .inv .2) (subst (λ (n : ℕ). Filled (rankIn table) n (l .ranks)) e (l .inv .4))
 
 pub ranks-spec : {M : Type 1} → statement M
 ranks-spec =

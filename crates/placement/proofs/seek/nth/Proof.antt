@@ -7,7 +7,8 @@ use native.Mathlib.Omega.{arith}
 use borrow.Author.Tests.{eq-eqb}
 use Rattle.design.specs.Count.{count, nth}
 use Rattle.design.proofs.Counting.{nth-count}
-use Rattle.placement.proofs.Flat.{isDisk, times-counted, times-passed}
+use Rattle.placement.specs.Entries.{isDisk}
+use Rattle.placement.proofs.Flat.{times-counted, times-passed}
 use Rattle.placement.proofs.seek.nth.Statement.{statement}
 use Rattle.placement.proofs.seek.nth.Tie as tie
 

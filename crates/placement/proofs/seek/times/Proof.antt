@@ -6,7 +6,8 @@ use Prim.Native.Nat.{_-_, _≤_}
 use native.Mathlib.Omega.{arith}
 use Rattle.design.specs.Count.{count}
 use Rattle.design.proofs.Counting.{count-le}
-use Rattle.placement.proofs.Flat.{isDisk, times-counted, times-passed}
+use Rattle.placement.specs.Entries.{isDisk}
+use Rattle.placement.proofs.Flat.{times-counted, times-passed}
 use Rattle.placement.proofs.seek.times.Statement.{statement}
 use Rattle.placement.proofs.seek.times.Tie as tie
 
