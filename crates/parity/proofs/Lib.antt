@@ -43,6 +43,7 @@ pub mod Blanks
 pub mod PromisedMemory
 pub mod Writing
 pub mod Summing
+pub mod Rest
 pub mod StripeSums
 pub mod ByBlocks
 pub mod Places

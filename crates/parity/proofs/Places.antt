@@ -15,8 +15,8 @@ use Rattle.parity.specs.Stripe.{unitSize, units, imageSize, unitIn, inde
 use Rattle.parity.specs.inner.Stores.{Ranked}
 use Rattle.parity.specs.inner.Shapes.{shapeIn}
 use Rattle.parity.specs.inner.Sums.{Placed, numberBy, unitBy, sumWith}
-use Rattle.parity.proofs.Cases.{put-other, put-ext}
-use Rattle.parity.proofs.Xor.{xorSum-ext}
+use Rattle.parity.proofs.Cases.{put-ext}
+use Rattle.parity.proofs.Xor.{xorSum-ext, xorSum-past}
 use Rattle.parity.proofs.Image.{unit-fits}
 use Rattle.parity.proofs.Home.{unit-lt, index-home}
 use Rattle.parity.proofs.Ranks.{numbered}
@@ -55,6 +55,4 @@ module _ (h : Shelf) (ok : isShelf h ≡ true) (ranks : List ℕ) (R : Ranked (h
 
     -- with k for i, of all units
     pub sum-whole : (x : List ℕ) → sumWith (h .table) ranks (shapeIn h) image s (h .k) x (h .k) ≡ xorSum (unitSize h) (cell h image s) (h .k)
-    sum-whole x =
-        sum-cells (h .k) x (h .k) (omega arith)
-        ∙ xorSum-ext (unitSize h) _ (cell h image s) (h .k) (λ j l. put-other (cell h image s) (h .k) x j (omega arith))
+    sum-whole x = sum-cells (h .k) x (h .k) (omega arith) ∙ xorSum-past (unitSize h) (cell h image s) x (h .k)

@@ -1,13 +1,13 @@
 -- A unit of a row as a part of it, and the row with another unit, where the unit lies within the row. Assumes nothing.
 use mathlib.Core.Path.{_≡_, sym, ap, ap₂, _∙_}
 use mathlib.Core.Logic.{_≢_, _⊎_, inl, inr}
-use mathlib.Core.List.{List, _++_, append-assoc}
+use mathlib.Core.List.{List, _++_, append-assoc, append-nil}
 use Prim.Native.Nat.{ℕ, suc, _+_, _-_, _*_, _≤_, _<_}
-use native.Mathlib.Nat.{mul-le-mul-right}
+use native.Mathlib.Nat.{zero-add, zero-mul, mul-le-mul-right}
 use native.Mathlib.Omega.{arith}
 use lib.Dec.{ltb}
 use lib.ListN.{length, take, drop, getD, length-drop}
-use lib.Seq.{paste, length-paste, drop-paste, take-at, drop-at, drop-drop, length-take-le, take-all, getD-take, getD-drop, ext-getD}
+use lib.Seq.{paste, length-paste, drop-paste, take-at, drop-at, drop-drop, drop-length, length-take-le, take-all, getD-take, getD-drop, ext-getD}
 use borrow.Author.Tests.{ltb-true, ltb-false}
 use borrow.Rule.Slice.PartMut.{midOf, putMid}
 use Rattle.parity.specs.Units.{unitAt}
@@ -105,3 +105,8 @@ module _ (U : ℕ) (row : List ℕ) (n : ℕ) (x : List ℕ) (fits : n * U + U �
   pub put-again : (y : List ℕ) → putUnit U (putUnit U row n x) n y ≡ putUnit U row n y
   unfolding putUnit
   put-again y = paste-again row (n * U) x U fits (omega arith) y
+
+-- a row of one unit
+pub put-whole : (U : ℕ) (row x : List ℕ) → length row ≡ U → length x ≡ U → putUnit U row 0 x ≡ x
+unfolding putUnit
+put-whole U row x fits size = rw (zero-mul U, zero-add U, ← fits, drop-length row) (append-nil (take (length row) x) ∙ take-all (length row) x (omega arith))

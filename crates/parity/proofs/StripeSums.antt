@@ -1,4 +1,4 @@
--- The units of a stripe mixed, one in each turn, into a unit of it that was cleared, or into a lent unit. Assumes nothing.
+-- The units of a stripe mixed, one in each turn, into a unit of it that was cleared. Assumes nothing.
 use mathlib.Core.Path.{_≡_, refl, sym, ap, ap₂, _∙_}
 use mathlib.Core.Logic.{_≢_}
 use mathlib.Core.List.{List}
@@ -12,9 +12,10 @@ use Rattle.parity.specs.Units.{zeros, unitAt, xorU, xorSum, put}
 use Rattle.parity.specs.inner.Stores.{putUnit}
 use Rattle.parity.specs.inner.Sums.{Placed, numberBy, unitBy, sumWith}
 use Rattle.parity.proofs.Cases.{cases, put-other, put-ext}
-use Rattle.parity.proofs.Xor.{xorU-length, xorSum-ext, xorSum-length}
+use Rattle.parity.proofs.Xor.{xorSum-ext, xorSum-length}
 use Rattle.parity.proofs.Put.{unit-size, put-size, put-there, put-again}
-use Rattle.parity.proofs.Summing.{sum-next, sum-over, Summed, summed-none, summed-next, summed-skip, summed-other, summed-all}
+use Rattle.parity.proofs.Rest.{rest-size}
+use Rattle.parity.proofs.Summing.{Summed, summed-none, summed-next, summed-skip, summed-other, summed-all}
 
 put-sized : {U : ℕ} (f : ℕ → List ℕ) (i : ℕ) (x : List ℕ) (n : ℕ) → length x ≡ U → length (f n) ≡ U → length (put f i x n) ≡ U
 put-sized f i x n size e = cases (eqb n i) (λ h. rw h size) (λ h. rw h e)
@@ -39,9 +40,7 @@ module _ {table ranks : List ℕ} {shape : Shape} {s : ℕ} where
   -- the exclusive-or of units of the image is as long as they are
   pub sum-size : (image : List ℕ) (i j : ℕ) → Placed table ranks shape s (length image) → j ≤ shape .k
       → length (sumWith table ranks shape image s i (zeros (shape .size)) j) ≡ shape .size
-  sum-size image i j P most =
-      xorSum-length (shape .size) _ j
-      (λ n l. put-sized (unitBy table ranks shape image s) i _ n (length-replicate (shape .size) 0) (unit-size (shape .size) image _ (P .within n (omega arith))))
+  sum-size image i j P most = rest-size (shape .size) image (numberBy table ranks shape s) j (λ n l. P .within n (omega arith)) i
 
   -- with any unit in place of unit t, the others are as they were
   kept : {t to : ℕ} (before y : List ℕ) {was : List ℕ} → Placed table ranks shape s (length before) → t < shape .k → to ≡ numberBy table ranks shape s t → length y ≡ shape .size
@@ -135,36 +134,3 @@ module _ {table ranks : List ℕ} {shape : Shape} {s : ℕ} where
           summed-all (shape .size) was to _ now m (rw all at (S .sum)) before y (unitsWith table ranks shape s i x before) (place-fits P (S .below) (S .number)) size stored
           (λ n l. put-ext (unitBy table ranks shape was s) (unitBy table ranks shape before s) i x n (λ ni. kept before y P (S .below) (S .number) size stored n (omega arith) (other n l ni)))
           ∙ ap (λ (o : ℕ). putUnit (shape .size) before o (sumWith table ranks shape before s i x m)) (S .number)
-
--- ---- the units of a stripe but unit i, mixed into a lent unit
-
-pub record LentSum (table ranks : List ℕ) (shape : Shape) (s i : ℕ) (image unit : List ℕ) (j : ℕ) : Type 0 where
-  pub size : length unit ≡ shape .size
-  pub is : unit ≡ sumWith table ranks shape image s i (zeros (shape .size)) j
-
-module _ {table ranks : List ℕ} {shape : Shape} {s i : ℕ} {image : List ℕ} where
-  pub lent-none : {unit : List ℕ} → unit ≡ zeros (shape .size) → LentSum table ranks shape s i image unit 0
-  unfolding xorSum
-  lent-none e = record { size = ap length e ∙ length-replicate (shape .size) 0; is = e }
-
-  module _ {unit : List ℕ} {j : ℕ} (S : LentSum table ranks shape s i image unit j) where
-    pub lent-next : {from : ℕ} {after : List ℕ} → Placed table ranks shape s (length image) → j < shape .k → from ≡ numberBy table ranks shape s j → j ≢ i
-        → after ≡ xorU unit (unitAt (length unit) image from) → LentSum table ranks shape s i image after (j + 1)
-    lent-next {from} {after} P l e ne mixed =
-        let U : ℕ = shape .size in
-        let here : after ≡ xorU unit (unitAt U image from) = rw (S .size) at mixed in
-        record {
-          size = ap length here ∙ xorU-length U unit (unitAt U image from) (S .size) (unit-size U image from (place-fits P l e));
-          is =
-              here
-              ∙ ap₂ xorU (S .is) (ap (unitAt U image) e ∙ sym (put-other (unitBy table ranks shape image s) i (zeros U) j ne))
-              ∙ sym (sum-next U (unitsWith table ranks shape s i (zeros U) image) j);
-        }
-
-    pub lent-over : j ≡ i → LentSum table ranks shape s i image unit (j + 1)
-    lent-over e =
-        let f : ℕ → List ℕ = unitsWith table ranks shape s i (zeros (shape .size)) image in
-        record { size = S .size; is = S .is ∙ sym (sum-over (shape .size) f j (ap length (sym (S .is)) ∙ S .size) (rw (eq-eqb j i e))) }
-
-    pub lent-all : {m : ℕ} → j ≤ m → m ≤ j → unit ≡ sumWith table ranks shape image s i (zeros (shape .size)) m
-    lent-all {m} most least = let all : j ≡ m = omega arith in rw all at (S .is)

@@ -50,6 +50,9 @@ module _ {h : Shelf} {image : List ℕ} {s : ℕ} {buffer ranks : List ℕ} {sha
   pub task-two : 2 ≤ h .k
   task-two = shelf-parts h (held .shelf) .limits .k-least
 
+  pub task-few : h .k ≤ 16
+  task-few = omega (arith, shelf-parts h (held .shelf) .limits .k-most)
+
   pub task-exact : (h .k - 1) * shape .size ≡ length buffer
   task-exact = rw (t .ready .shaped) (sym (t .exact))
 

@@ -118,6 +118,10 @@ module _ (U : ℕ) where
   xorSum-length f zero h = length-replicate U 0
   xorSum-length f (suc n) h = xorU-length U (xorSum U f n) (f n) (xorSum-length f n (λ i l. h i (omega arith))) (h n (omega arith))
 
+  -- a unit past the last makes no difference
+  pub xorSum-past : (f : ℕ → List ℕ) (x : List ℕ) (n : ℕ) → xorSum U (put f n x) n ≡ xorSum U f n
+  xorSum-past f x n = xorSum-ext (put f n x) f n (λ j l. put-other f n x j (omega arith))
+
   -- one unit is exchanged
   abbrev Exchanged : (ℕ → List ℕ) → ℕ → List ℕ → ℕ → Type 0
   Exchanged f i x n = xorSum U (put f i x) n ≡ xorU (xorSum U f n) (xorU (f i) x)

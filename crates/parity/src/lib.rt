@@ -17,6 +17,7 @@ mod sizes;
 mod storing;
 mod stripe;
 mod units;
+mod whole;
 
 // The numbers by which the units of a stripe are found: k, b and r of the shelf, the units of a disk and the bytes of a unit.
 struct Shape {

@@ -1,8 +1,6 @@
-// The exclusive-or of the units of a stripe, into a unit of the image or into a lent one.
+// The exclusive-or of the units of a stripe, into a unit of the image or into a lent one: block by block where that serves.
 ghost use mathlib.Core.Path.{_≡_};
-ghost use mathlib.Core.Bool.{cond};
 ghost use Prim.Native.Nat.{_+_, _-_, _*_, _≤_, _<_};
-ghost use lib.Dec.{ltb, eqb};
 ghost use lib.ListN.{length};
 ghost use Rattle.parity.specs.Units.{zeros, unitAt, xorSum};
 ghost use Rattle.parity.specs.inner.Stores.{putUnit, Reckoned};
@@ -10,67 +8,13 @@ ghost use Rattle.parity.specs.inner.Blocks.{Listed};
 ghost use Rattle.parity.specs.inner.Sums.{Placed, numberBy, sumWith};
 use crate::Shape;
 use crate::blocks;
-use crate::bytes;
 use crate::units;
+use crate::whole;
 use design::Shelf;
 use design::Table;
 use placement::fast::PerEntry;
 
-// The first index beside i, and the second.
-fn first_beside(i: usize) -> usize
-    ensures { λ r. ⌜ r ≡ cond (eqb i 0) 1 0 ⌝ }
-{
-    if i == 0 { 1 } else { 0 }
-}
-
-fn second_beside(i: usize) -> usize
-    ensures { λ r. ⌜ r ≡ cond (ltb i 2) 2 1 ⌝ }
-{
-    if i < 2 { 2 } else { 1 }
-}
-
-// Begins the exclusive-or of the units beside unit i, whose number is `to`, with the first two of them in one pass, where
-// there are two; how many units of the stripe are then done.
-fn begin(
-    image: &mut [u8],
-    table: &Table,
-    ranks: &PerEntry,
-    shape: Shape,
-    s: usize,
-    i: usize,
-    to: usize,
-) -> usize
-    requires { ⌜ Placed (now table) (now ranks) shape s (length (now image)) ⌝ }
-    requires { ⌜ (i < shape .k) × (to ≡ numberBy (now table) (now ranks) shape s i) ⌝ }
-    ensures { λ r. ⌜ (r ≤ shape .k) × (now (image .exit) ≡ putUnit (shape .size) (now (image .entry)) to (sumWith (now (table .entry)) (now (ranks .entry)) shape (now (image .entry)) s i (zeros (shape .size)) r)) ⌝ }
-{
-    let size = shape.size;
-    if shape.k == 2 {
-        units::clear_unit(image, to, size);
-        return 0;
-    }
-    let second = second_beside(i);
-    let x = number(table, ranks, shape, s, first_beside(i));
-    let y = number(table, ranks, shape, s, second);
-    units::join(image, to, x, y, size);
-    second + 1
-}
-
-// The numbers of the units of stripe s.
-fn numbers(table: &Table, ranks: &PerEntry, shape: Shape, s: usize) -> blocks::Numbers
-    requires { ⌜ Reckoned (shape .k) (shape .b) (shape .r) (shape .depth) s 0 ⌝ }
-    requires { ⌜ shape .k ≤ 16 ⌝ }
-    ensures { λ r. ⌜ Listed r (numberBy (now (table .entry)) (now (ranks .entry)) shape s) (shape .k) ⌝ }
-{
-    let k = shape.k;
-    let mut numbers = [0; Shelf::K_MOST];
-    for j in 0..k {
-        numbers[j] = number(table, ranks, shape, s, j);
-    }
-    numbers
-}
-
-// Unit i of stripe s becomes the exclusive-or of the others: of three or more by blocks, where it has whole ones.
+// Unit i of stripe s becomes the exclusive-or of the others.
 pub fn restore(image: &mut [u8], table: &Table, ranks: &PerEntry, shape: Shape, s: usize, i: usize)
     requires { ⌜ Placed (now table) (now ranks) shape s (length (now image)) ⌝ }
     requires { ⌜ i < shape .k ⌝ }
@@ -78,36 +22,11 @@ pub fn restore(image: &mut [u8], table: &Table, ranks: &PerEntry, shape: Shape, 
 {
     let k = shape.k;
     let size = shape.size;
-    if 3 < k && size % blocks::BLOCK == 0 {
+    if blocks::serve(k, size) {
         let numbers = numbers(table, ranks, shape, s);
         blocks::restore(image, &numbers, k, i, size / blocks::BLOCK);
     } else {
-        restore_whole(image, table, ranks, shape, s, i);
-    }
-}
-
-// The same, unit after unit.
-fn restore_whole(
-    image: &mut [u8],
-    table: &Table,
-    ranks: &PerEntry,
-    shape: Shape,
-    s: usize,
-    i: usize,
-)
-    requires { ⌜ Placed (now table) (now ranks) shape s (length (now image)) ⌝ }
-    requires { ⌜ i < shape .k ⌝ }
-    ensures { λ _. ⌜ now (image .exit) ≡ putUnit (shape .size) (now (image .entry)) (numberBy (now (table .entry)) (now (ranks .entry)) shape s i) (sumWith (now (table .entry)) (now (ranks .entry)) shape (now (image .entry)) s i (zeros (shape .size)) (shape .k)) ⌝ }
-{
-    let k = shape.k;
-    let size = shape.size;
-    let to = number(table, ranks, shape, s, i);
-    let begun = begin(image, table, ranks, shape, s, i, to);
-    for j in begun..k {
-        if j != i {
-            let from = number(table, ranks, shape, s, j);
-            units::mix_within(image, to, from, size);
-        }
+        whole::restore(image, table, ranks, shape, s, i);
     }
 }
 
@@ -126,12 +45,12 @@ pub fn gather(
     ensures { λ _. ⌜ now (unit .exit) ≡ sumWith (now (table .entry)) (now (ranks .entry)) shape (now (image .entry)) s i (zeros (shape .size)) (shape .k) ⌝ }
 {
     let k = shape.k;
-    bytes::clear(unit);
-    for j in 0..k {
-        if j != i {
-            let from = number(table, ranks, shape, s, j);
-            units::mix_out(unit, image, from);
-        }
+    let size = shape.size;
+    if blocks::serve(k, size) {
+        let numbers = numbers(table, ranks, shape, s);
+        blocks::gather(unit, 0, image, &numbers, k, i, size / blocks::BLOCK);
+    } else {
+        whole::gather(unit, image, table, ranks, shape, s, i);
     }
 }
 
@@ -146,33 +65,43 @@ pub fn reparity(
     unit: &[u8],
 )
     requires { ⌜ Placed (now table) (now ranks) shape s (length (now image)) ⌝ }
-    requires { ⌜ length (now unit) ≡ shape .size ⌝ }
+    requires { ⌜ (length (now unit) ≡ shape .size) × (j < shape .k - 1) ⌝ }
     ensures { λ _. ⌜ now (image .exit) ≡ putUnit (shape .size) (now (image .entry)) (numberBy (now (table .entry)) (now (ranks .entry)) shape s (shape .k - 1)) (sumWith (now (table .entry)) (now (ranks .entry)) shape (now (image .entry)) s j (now (unit .entry)) (shape .k - 1)) ⌝ }
 {
-    let parity = shape.k - 1;
+    let k = shape.k;
     let size = shape.size;
-    let to = number(table, ranks, shape, s, parity);
-    units::clear_unit(image, to, size);
-    for i in 0..parity {
-        if i == j {
-            units::mix_in(image, to, unit);
-        } else {
-            let from = number(table, ranks, shape, s, i);
-            units::mix_within(image, to, from, size);
-        }
+    if blocks::serve(k, size) {
+        let numbers = numbers(table, ranks, shape, s);
+        blocks::reparity(image, &numbers, k - 1, j, unit, size / blocks::BLOCK);
+    } else {
+        whole::reparity(image, table, ranks, shape, s, j, unit);
     }
 }
 
 // Unit n of the image becomes the exclusive-or of the units of a lent buffer.
 pub fn seal(image: &mut [u8], n: usize, buffer: &[u8], size: usize, count: usize)
-    requires { ⌜ (n * size + size ≤ length (now image)) × (count * size ≡ length (now buffer)) ⌝ }
+    requires { ⌜ (count < 16) × (n * size + size ≤ length (now image)) × (count * size ≡ length (now buffer)) ⌝ }
     ensures { λ _. ⌜ now (image .exit) ≡ putUnit size (now (image .entry)) n (xorSum size (unitAt size (now (buffer .entry))) count) ⌝ }
 {
-    units::clear_unit(image, n, size);
-    for i in 0..count {
-        let at = i * size;
-        units::mix_in(image, n, &buffer[at..at + size]);
+    if blocks::serve(count + 1, size) {
+        blocks::seal(image, n, buffer, count, size / blocks::BLOCK);
+    } else {
+        whole::seal(image, n, buffer, size, count);
     }
+}
+
+// The numbers of the units of stripe s, and of one of them.
+fn numbers(table: &Table, ranks: &PerEntry, shape: Shape, s: usize) -> blocks::Numbers
+    requires { ⌜ Reckoned (shape .k) (shape .b) (shape .r) (shape .depth) s 0 ⌝ }
+    requires { ⌜ shape .k ≤ 16 ⌝ }
+    ensures { λ r. ⌜ Listed r (numberBy (now (table .entry)) (now (ranks .entry)) shape s) (shape .k) ⌝ }
+{
+    let k = shape.k;
+    let mut numbers = [0; Shelf::K_MOST];
+    for j in 0..k {
+        numbers[j] = number(table, ranks, shape, s, j);
+    }
+    numbers
 }
 
 pub fn number(table: &Table, ranks: &PerEntry, shape: Shape, s: usize, i: usize) -> usize

@@ -1,9 +1,15 @@
--- The sum of numbered units but one, and the numbers of blocks.
+-- When units are mixed block by block, the sum of numbered units but one, and the numbers of blocks.
 use mathlib.Core.Path.{_≡_}
+use mathlib.Core.Bool.{Bool, _&&_}
 use mathlib.Core.List.{List}
-use Prim.Native.Nat.{ℕ, _+_, _*_, _≤_, _<_}
+use Prim.Native.Nat.{ℕ, _+_, _*_, _%_, _≤_, _<_}
+use lib.Dec.{ltb, eqb}
 use lib.ListN.{getD}
 use Rattle.parity.specs.Units.{zeros, unitAt, xorSum, put}
+
+-- in a stripe of k units of U bytes: where it has four or more, of whole blocks
+unfoldable pub byBlocks : ℕ → ℕ → Bool
+byBlocks k U = ltb 3 k && eqb (U % 128) 0
 
 -- the exclusive-or of the units with the first k numbers, but that with number i
 abbrev pub restOf : ℕ → List ℕ → (ℕ → ℕ) → ℕ → ℕ → List ℕ

@@ -9,7 +9,7 @@ use borrow.Author.Needs.{needs}
 use borrow.Rule.Slice.PartMut.{midOf}
 use Rattle.parity.proofs.Put.{part-unit, part-size}
 use Rattle.parity.proofs.Prepared.{shape-deep, number-asks}
-use Rattle.parity.proofs.StripeTurns.{Task, Begun, task-short, task-exact, task-inside, task-two, begun-few, begun-none, begun-size, begun-fits, begun-put, begun-skip, begun-all, data-unit, parity-unit}
+use Rattle.parity.proofs.StripeTurns.{Task, Begun, task-short, task-exact, task-inside, task-two, task-few, begun-few, begun-none, begun-size, begun-fits, begun-put, begun-skip, begun-all, data-unit, parity-unit}
 use Rattle.parity.proofs.large.store_stripe.Statement.{statement}
 use Rattle.parity.proofs.large.store_stripe.Tie as tie
 
@@ -121,7 +121,7 @@ seal-requires : tie.Need-seal-requires Inv-loop μ-loop
 seal-requires c κs =
     let at = c .before .before .before .before .before .before .before .before .before in
     let t = task (at .before .before) in
-    (begun-fits t (at-end (c .before .before .before .before .before .before .before .before)) (omega (arith, task-two t)) (c .before .before .before .before .number2 .ensures), task-exact t)
+    (omega (arith, task-two t, task-few t), begun-fits t (at-end (c .before .before .before .before .before .before .before .before)) (omega (arith, task-two t)) (c .before .before .before .before .number2 .ensures), task-exact t)
 
 add-written-2 : tie.Need-add-written-2 Inv-loop μ-loop
 add-written-2 c =

@@ -14,7 +14,10 @@ shape-of-requires : tie.Need-shape-of-requires
 shape-of-requires c κs = c .before .before .before .before .pre .stored .shelf
 
 reparity-requires : tie.Need-reparity-requires
-reparity-requires c κs = let at = c .before .before .before in sum-asks (start at .pre) _ (at .before .ranks-of .ensures) (at .shape-of .ensures)
+reparity-requires c κs =
+    let at = c .before .before .before in
+    let asks = sum-asks (start at .pre) _ (at .before .ranks-of .ensures) (at .shape-of .ensures) in
+    (asks .0, (asks .1, rw (at .shape-of .ensures) (start at .pre .index)))
 
 returns : tie.Need-returns
 returns c =

@@ -1,61 +1,46 @@
--- `parity::stripe::gather` meets its contract. The loop's invariant: the lent unit is the exclusive-or of the units before unit j but
--- unit i. Assumes nothing.
-use mathlib.Core.Path.{sym, ap, _∙_}
-use mathlib.Core.Logic.{⊎-elim}
-use Prim.Native.Nat.{_-_, _≤_}
+-- `parity::stripe::gather` meets its contract, by blocks and unit after unit. Assumes nothing.
+use mathlib.Core.Path.{_≡_}
+use Prim.Native.Nat.{ℕ, _*_, _/_}
 use native.Mathlib.Omega.{arith}
 use borrow.Author.Needs.{needs}
-use Rattle.parity.specs.Units.{zeros}
-use Rattle.parity.proofs.StripeSums.{LentSum, place-fits, lent-none, lent-next, lent-over, lent-all}
+use Rattle.parity.specs.inner.Sums.{numberBy}
+use Rattle.parity.proofs.Rest.{listed-within, listed-gathered}
+use Rattle.parity.proofs.ByBlocks.{whole-blocks}
 use Rattle.parity.proofs.stripe.gather.Statement.{statement}
 use Rattle.parity.proofs.stripe.gather.Tie as tie
 
-abbrev Inv-loop : tie.InvT-loop
-Inv-loop unit₀ image table ranks shape s i k j₀ unit j = (j ≤ k) × LentSum table ranks shape s i image unit j
+abbrev start : tie.After-numbers → tie.Start
+start c = c .before .before .before .before .before
 
-abbrev μ-loop : tie.MeasureT-loop
-μ-loop unit₀ image table ranks shape s i k j₀ unit j = k - j
+abbrev number : tie.Start → ℕ → ℕ
+number c = numberBy (c .args .table .now) (c .args .ranks .now) (c .args .shape) (c .args .s)
 
-loop-holds : tie.Need-loop-holds Inv-loop μ-loop
-loop-holds c =
-    let start = c .before .before .before .before .before .before in
-    (omega arith, lent-none (c .before .before .clear .ensures ∙ ap zeros (start .pre .1)))
+whole : (c : tie.After-numbers) → let size : ℕ = start c .args .shape .size in size / 128 * 128 ≡ size
+whole c = whole-blocks _ _ (c .before .before .serve .ensures) (c .before .if1 .taken)
 
-mix-out-requires : tie.Need-mix-out-requires Inv-loop μ-loop
-mix-out-requires c κs =
-    let turn = c .before .before .before in
-    let start = turn .before .before .before .before .before .before .before .before in
-    rw (turn .before .loop .inv .1 .size) (place-fits (start .pre .0) (turn .loop-test .taken) (c .before .number .ensures))
+gather-requires : tie.Need-gather-requires
+gather-requires c κs =
+    let at = c .before .before in
+    let P = start at .pre .0 in
+    rw (whole at) ((P .most, omega (arith, start at .pre .1)), listed-within (at .numbers .result) (number (start at)) _ (at .numbers .ensures) _ _ (P .within))
 
-loop-again : tie.Need-loop-again Inv-loop μ-loop
-loop-again c =
-    let sum = c .before .before .loop .inv .1 in
-    let start = c .before .before .before .before .before .before .before .before .before in (
-      omega arith,
-      ⊎-elim
-          (λ w. lent-next sum (start .pre .0) (c .before .loop-test .taken) (w .1 .ensures) (w .0 .taken) (w .6 ∙ w .3 .ensures))
-          (λ w. rw (w .1) (lent-over sum (w .0 .left)))
-          (c .if1 .came),
-    )
-
-same-length : tie.Need-same-length Inv-loop μ-loop
-same-length c = c .before .loop .inv .1 .size ∙ sym (c .before .before .before .before .before .before .before .before .pre .1)
-
-returns : tie.Need-returns Inv-loop μ-loop
-returns c = lent-all (c .before .loop .inv .1) (c .before .loop .inv .0) (c .loop-test .left)
+returns : tie.Need-returns
+returns c =
+    let done = c .before .before in
+    let at = done .before .before .before in
+    let a = start at .args in
+    let P = start at .pre .0 in
+    listed-gathered (at .numbers .result) (number (start at)) _ (at .numbers .ensures) (a .shape .size) (a .image .now) (a .unit .now) (a .i) (P .within) (start at .pre .1) (rw (whole at) at (done .gather .ensures))
 
 pub gather-spec : {M : Type 1} → statement M
 gather-spec =
     tie.close
     (tie.spec
-    Inv-loop
-    μ-loop
     (λ c κs. search needs)
-    loop-holds
     (λ c κs. search needs)
-    mix-out-requires
-    (λ c. omega arith)
-    (λ c. omega arith)
-    loop-again
-    same-length
-    returns)
+    gather-requires
+    (λ c κs. search needs)
+    (λ c. search needs)
+    returns
+    (λ c. search needs)
+    (λ c. search needs))

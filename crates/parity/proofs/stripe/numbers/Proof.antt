@@ -1,13 +1,12 @@
 -- `parity::stripe::numbers` meets its contract. The loop's invariant: the numbers before j are those of the units. Assumes nothing.
 use mathlib.Core.Path.{_≡_, refl, _∙_}
-use mathlib.Core.List.{List}
-use Prim.Native.Nat.{ℕ, _-_, _≤_, _<_}
+use Prim.Native.Nat.{_-_, _≤_}
 use native.Mathlib.Omega.{arith}
 use lib.ListN.{length, length-set}
-use lib.Seq.{getD-set-same, getD-set-other}
-use borrow.Author.Count.{below-none, below-more}
+use borrow.Author.Count.{below-none}
 use Rattle.parity.specs.inner.Blocks.{Listed}
 use Rattle.parity.specs.inner.Sums.{numberBy}
+use Rattle.parity.proofs.Rest.{listed-next}
 use Rattle.parity.proofs.stripe.numbers.Statement.{statement}
 use Rattle.parity.proofs.stripe.numbers.Tie as tie
 
@@ -25,15 +24,10 @@ number-requires c κs = let P = c .before .before .pre .0 in record { two = P .t
 
 loop-again : tie.Need-loop-again Inv-loop μ-loop
 loop-again c =
-    let at = c .before .before in
-    let numbers : List ℕ = at .loop .numbers in
-    let j : ℕ = at .loop .j in
-    let l : j < length numbers = omega (arith, at .loop .inv .1, c .before .loop-test .taken, at .before .pre .1) in (
+    let at = c .before .before in (
       omega arith,
-      length-set numbers j _ ∙ at .loop .inv .1,
-      below-more _ j
-          (λ m h. getD-set-other numbers j m _ 0 (omega arith) ∙ at .loop .inv .2 m h)
-          (getD-set-same numbers j _ 0 l ∙ c .number .ensures),
+      length-set (at .loop .numbers) (at .loop .j) _ ∙ at .loop .inv .1,
+      listed-next (at .loop .numbers) _ (at .loop .j) (at .loop .inv .2) (omega (arith, at .loop .inv .1, c .before .loop-test .taken, at .before .pre .1)) (c .number .ensures),
     )
 
 returns : tie.Need-returns Inv-loop μ-loop

@@ -1,7 +1,7 @@
--- `parity::stripe::first_beside` meets its contract. Assumes nothing.
+-- `parity::whole::first_beside` meets its contract. Assumes nothing.
 use borrow.Author.Tests.{eq-eqb, ne-eqb}
-use Rattle.parity.proofs.stripe.first_beside.Statement.{statement}
-use Rattle.parity.proofs.stripe.first_beside.Tie as tie
+use Rattle.parity.proofs.whole.first_beside.Statement.{statement}
+use Rattle.parity.proofs.whole.first_beside.Tie as tie
 
 returns : tie.Need-returns
 returns c = rw (eq-eqb _ _ (c .if1 .taken))

@@ -1,4 +1,4 @@
--- `parity::stripe::begin` meets its contract: a cleared unit is the exclusive-or of none, and two joined are that of the first two.
+-- `parity::whole::begin` meets its contract: a cleared unit is the exclusive-or of none, and two joined are that of the first two.
 -- Assumes nothing.
 use mathlib.Core.Path.{_≡_, sym, ap, ap₂, _∙_}
 use mathlib.Core.List.{List}
@@ -12,8 +12,8 @@ use Rattle.parity.specs.inner.Sums.{numberBy, sumWith}
 use Rattle.parity.proofs.Put.{unit-size}
 use Rattle.parity.proofs.FirstTwo.{two-beside, first-two}
 use Rattle.parity.proofs.StripeSums.{place-fits}
-use Rattle.parity.proofs.stripe.begin.Statement.{statement}
-use Rattle.parity.proofs.stripe.begin.Tie as tie
+use Rattle.parity.proofs.whole.begin.Statement.{statement}
+use Rattle.parity.proofs.whole.begin.Tie as tie
 
 abbrev start : tie.Else1 → tie.Start
 start c = c .before .before .before

@@ -1,4 +1,4 @@
--- `parity::stripe::restore_whole` meets its contract. The loop's invariant: unit i of the stripe is the exclusive-or of the units before unit j
+-- `parity::whole::restore` meets its contract. The loop's invariant: unit i of the stripe is the exclusive-or of the units before unit j
 -- but itself. Assumes nothing.
 use mathlib.Core.Path.{refl, _∙_}
 use mathlib.Core.Logic.{⊎-elim}
@@ -8,8 +8,8 @@ use lib.ListN.{length-replicate}
 use borrow.Author.Needs.{needs}
 use Rattle.parity.specs.Units.{zeros}
 use Rattle.parity.proofs.StripeSums.{StripeSum, stripe-begun, stripe-mixes, stripe-next, stripe-over, stripe-all, sum-size}
-use Rattle.parity.proofs.stripe.restore_whole.Statement.{statement}
-use Rattle.parity.proofs.stripe.restore_whole.Tie as tie
+use Rattle.parity.proofs.whole.restore.Statement.{statement}
+use Rattle.parity.proofs.whole.restore.Tie as tie
 
 abbrev Inv-loop : tie.InvT-loop
 Inv-loop image₀ table ranks shape s i k size to begun j₀ image j = (j ≤ k) × StripeSum table ranks shape s i i (zeros size) to image₀ image j
@@ -55,8 +55,8 @@ returns c =
     let begun = at .begin .ensures in
     stripe-all (inv .1) (start .args .image .now) _ (start .pre .0) (sum-size _ _ _ (start .pre .0) (begun .0)) (begun .1) (inv .0) (c .loop-test .left) (omega arith) (λ n l ne. ne)
 
-pub restore-whole-spec : {M : Type 1} → statement M
-restore-whole-spec =
+pub restore-spec : {M : Type 1} → statement M
+restore-spec =
     tie.close
     (tie.spec
     Inv-loop

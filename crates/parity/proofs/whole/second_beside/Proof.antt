@@ -1,7 +1,7 @@
--- `parity::stripe::second_beside` meets its contract. Assumes nothing.
+-- `parity::whole::second_beside` meets its contract. Assumes nothing.
 use borrow.Author.Tests.{lt-ltb, le-ltb}
-use Rattle.parity.proofs.stripe.second_beside.Statement.{statement}
-use Rattle.parity.proofs.stripe.second_beside.Tie as tie
+use Rattle.parity.proofs.whole.second_beside.Statement.{statement}
+use Rattle.parity.proofs.whole.second_beside.Tie as tie
 
 returns : tie.Need-returns
 returns c = rw (lt-ltb _ _ (c .if1 .taken))
