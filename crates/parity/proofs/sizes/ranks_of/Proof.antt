@@ -12,7 +12,7 @@ ranks-requires : tie.Need-ranks-requires
 ranks-requires c κs = let e = c .before .before .before .pre in (entries-fit _ e, entries-below _ e)
 
 returns : tie.Need-returns
-returns c = ranks-at _ _ (c .ranks .ensures) (entries-fit _ (c .before .before .before .pre))
+returns c = ranks-at _ _ (c .ranks .ensures) (entries-fit _ (c .before .before .before .before .pre))
 
 pub ranks-of-spec : {M : Type 1} → statement M
 ranks-of-spec = tie.close (tie.spec mul-ranks ranks-requires returns)
