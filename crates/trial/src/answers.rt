@@ -17,25 +17,3 @@ pub fn cost(cost: Cost) {
     print::number(cost.read);
     print::number(cost.written);
 }
-
-fn all_are(bytes: &[u8], byte: u8) -> bool {
-    for i in 0..bytes.len() {
-        if bytes[i] != byte {
-            return false;
-        }
-    }
-    true
-}
-
-// Bytes; more than 64 of one value as their count, `x` and the value.
-pub fn unit(bytes: &[u8]) {
-    if bytes.len() > 64 {
-        if all_are(bytes, bytes[0]) {
-            print::number(bytes.len());
-            print::text(b"x");
-            print::pair(bytes[0]);
-            return;
-        }
-    }
-    print::bytes(bytes);
-}

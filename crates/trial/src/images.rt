@@ -1,171 +1,86 @@
-// The commands that set the image, and those that look at it.
+// The calls on the current shelf and the current image.
 use crate::answers;
-use crate::held::Held;
-use crate::held::IMAGE_MOST;
-use crate::held::Step;
+use crate::commands;
+use crate::commands::Call;
 use crate::print;
-use crate::sheets;
-use crate::sheets::End;
-use crate::words;
 use design::Shelf;
 
-// The first n bytes; none, where there are fewer.
-pub fn first(bytes: &[u8], n: usize) -> &[u8] {
-    if n <= bytes.len() {
-        &bytes[0..n]
-    } else {
-        &bytes[0..0]
-    }
-}
-
-// An image of so many bytes, all of one value.
-fn image_line(held: Held, line: &[u8]) -> Step {
-    let size = words::number(line, 1);
-    let byte = words::number(line, 2);
-    if size > IMAGE_MOST {
-        return Step::other(held);
-    }
-    if byte > 255 {
-        return Step::other(held);
-    }
-    Step::done(held.with_image([byte as u8; IMAGE_MOST], size))
-}
-
-fn put_line(held: Held, line: &[u8]) -> Step {
-    let mut image = held.image;
-    let mut space = [0u8; words::MOST];
-    let n = words::bytes(line, 2, &mut space);
-    let at = words::number(line, 1);
-    match sheets::add(&mut image, at, &space[0..n]) {
-        End::At(_) => Step::done(held.with_image(image, held.size)),
-        End::NoRoom => Step::other(held),
-    }
-}
-
-// Prints n bytes from `at` on, where there are so many.
-fn part(image: &[u8], at: usize, n: usize) -> bool {
-    if at > image.len() {
-        return false;
-    }
-    if n > image.len() - at {
-        return false;
-    }
-    let end = at + n;
-    print::text(b"bytes");
-    answers::unit(&image[at..end]);
-    print::end();
-    true
-}
-
-fn bytes_line(held: Held, line: &[u8]) -> Step {
-    let image = held.image;
-    if part(&image, words::number(line, 1), words::number(line, 2)) {
-        return Step::done(held);
-    }
-    Step::other(held)
-}
-
-// Reads into the buffer and prints what came back.
 fn read(shelf: Shelf, image: &[u8], address: usize, buffer: &mut [u8]) {
-    print::text(b"read");
     answers::cost(parity::read(shelf, image, address, buffer));
-    answers::unit(buffer);
-    print::end();
+    print::unit(buffer);
 }
 
-// The same into the first n bytes, where the buffer has so many.
-fn read_first(shelf: Shelf, image: &[u8], address: usize, buffer: &mut [u8], n: usize) -> bool {
-    if n > buffer.len() {
-        return false;
-    }
-    read(shelf, image, address, &mut buffer[0..n]);
-    true
-}
-
-fn read_line(held: Held, line: &[u8]) -> Step {
-    let image = held.image;
-    let mut buffer = [0xAAu8; IMAGE_MOST];
-    let address = words::number(line, 1);
-    let n = words::number(line, 2);
-    if read_first(
-        held.shelf,
-        first(&image, held.size),
-        address,
-        &mut buffer,
-        n,
-    ) {
-        return Step::done(held);
-    }
-    Step::other(held)
-}
-
-fn scrub_line(held: Held) -> Step {
-    let image = held.image;
-    let scrubbing = parity::scrub(held.shelf, first(&image, held.size));
+fn scrub(shelf: Shelf, image: &[u8]) {
+    let scrubbing = parity::scrub(shelf, image);
     let verdict = scrubbing.verdict;
-    print::text(b"scrub");
     answers::verdict(verdict);
     print::number(scrubbing.wrong);
-    print::end();
-    Step::done(held)
-}
-
-fn show_place_line(held: Held, line: &[u8]) -> Step {
-    let image = held.image;
-    print::text(b"showplace");
-    answers::unit(parity::show_place(
-        held.shelf,
-        first(&image, held.size),
-        words::number(line, 1),
-        words::number(line, 2),
-    ));
-    print::end();
-    Step::done(held)
 }
 
 fn show_address<'a>(shelf: Shelf, image: &'a [u8], address: usize, other: &'a [u8]) {
-    print::text(b"showaddress");
-    answers::unit(parity::show_address(shelf, image, address, other));
-    print::end();
+    print::unit(parity::show_address(shelf, image, address, other));
 }
 
-fn show_address_line(held: Held, line: &[u8]) -> Step {
-    let n = words::number(line, 2);
-    if n > IMAGE_MOST {
-        return Step::other(held);
+// The calls that leave the image.
+pub fn look(shelf: Shelf, image: &[u8], call: Call, buffer: &mut [u8]) {
+    let command = call.command;
+    match command {
+        commands::READ => read(shelf, image, call.a, buffer),
+        commands::SCRUB => scrub(shelf, image),
+        commands::SHOW_PLACE => print::unit(parity::show_place(shelf, image, call.b, call.c)),
+        _ => show_address(shelf, image, call.a, buffer),
     }
-    let image = held.image;
-    let other = [0xBBu8; IMAGE_MOST];
-    show_address(
-        held.shelf,
-        first(&image, held.size),
-        words::number(line, 1),
-        first(&other, n),
-    );
-    Step::done(held)
 }
 
-pub fn run(held: Held, line: &[u8]) -> Step {
-    if words::fits(line, b"image # #") {
-        return image_line(held, line);
+fn counts(counts: &[usize; Shelf::V_MOST]) {
+    for e in 0..Shelf::V_MOST {
+        print::number(counts[e]);
     }
-    if words::fits(line, b"put # *") {
-        return put_line(held, line);
+}
+
+fn rebuild(shelf: Shelf, image: &mut [u8]) -> Shelf {
+    let rebuilding = parity::rebuild(shelf, image);
+    let verdict = rebuilding.verdict;
+    answers::verdict(verdict);
+    let numbers = rebuilding.counts;
+    counts(&numbers);
+    rebuilding.shelf
+}
+
+fn write(shelf: Shelf, image: &mut [u8], address: usize, unit: &[u8]) -> Shelf {
+    answers::cost(parity::write(shelf, image, address, unit));
+    shelf
+}
+
+fn write_stripe(shelf: Shelf, image: &mut [u8], stripe: usize, buffer: &[u8]) -> Shelf {
+    answers::cost(parity::write_stripe(shelf, image, stripe, buffer));
+    shelf
+}
+
+fn blank(shelf: Shelf, image: &mut [u8]) -> Shelf {
+    answers::verdict(parity::blank(shelf, image));
+    shelf
+}
+
+// The calls that may change the image, or the loss.
+pub fn store(shelf: Shelf, image: &mut [u8], call: Call, buffer: &[u8]) -> Shelf {
+    let command = call.command;
+    match command {
+        commands::BLANK => blank(shelf, image),
+        commands::WRITE | commands::FILL => write(shelf, image, call.a, buffer),
+        commands::WRITE_STRIPE | commands::FILL_STRIPE => write_stripe(
+            shelf,
+            image,
+            call.a,
+            buffer,
+        ),
+        _ => rebuild(shelf, image),
     }
-    if words::fits(line, b"bytes # #") {
-        return bytes_line(held, line);
-    }
-    if words::fits(line, b"read # #") {
-        return read_line(held, line);
-    }
-    if words::fits(line, b"scrub") {
-        return scrub_line(held);
-    }
-    if words::fits(line, b"showplace # #") {
-        return show_place_line(held, line);
-    }
-    if words::fits(line, b"showaddress # #") {
-        return show_address_line(held, line);
-    }
-    Step::other(held)
+}
+
+pub fn lose(shelf: Shelf, disk: usize) -> Shelf {
+    let losing = parity::lose(shelf, disk);
+    let verdict = losing.verdict;
+    answers::verdict(verdict);
+    losing.shelf
 }

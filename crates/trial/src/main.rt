@@ -3,7 +3,7 @@
 // the list of readings that docs/DECISIONS.md cites.
 //
 // A line's words are set apart by single spaces. A number is decimal, below 2^64. BYTES are pairs of hexadecimal digits in
-// upper case, at most 2,048 pairs, or `-` for none.
+// upper case, at most 16,384 pairs, or `-` for none.
 //
 // # TEXT, or an empty line      printed as it is
 //
@@ -45,7 +45,7 @@
 // put AT BYTES                  has these bytes from AT on
 // bytes AT N                    prints N bytes of it from AT on. More than 64 equal ones are printed as COUNTxBYTE, here and below
 //
-// The calls on the current shelf and image (modules images and stored). Each prints its name and 0 or the refusal's number:
+// The calls on the current shelf and image (module images). Each prints its name and 0 or the refusal's number:
 // read ADDRESS N                into N bytes (at most 16,384) that are AA before: then the units read and written, and the buffer
 // scrub                         then the wrong stripes
 // showplace DISK OFFSET         prints the part alone, `-` for the empty one
@@ -60,75 +60,29 @@
 //
 // Any other line is printed after `? `, and so is one whose number is too large for its command.
 //
-// A layer has a module with a function `run`, which says whether the line is one of its commands; `step` asks each in turn.
-// A new command is a pattern (see words::fits) and a function in its layer's module.
+// A new command has a pattern and a number in the module commands, and an arm in steps or images.
 mod answers;
 mod bits;
+mod commands;
 mod held;
 mod images;
 mod places;
 mod print;
 mod runs;
 mod sheets;
-mod stored;
+mod steps;
 mod values;
 mod words;
 
+use bytes::scan;
 use held::Held;
-
-// An empty line, or a comment.
-fn is_note(line: &[u8]) -> bool {
-    if line.len() == 0 {
-        return true;
-    }
-    line[0] == b'#'
-}
-
-fn step(held: Held, line: &[u8]) -> Held {
-    if is_note(line) {
-        print::text(line);
-        print::end();
-        return held;
-    }
-    if bits::run(line) {
-        return held;
-    }
-    let sheet = sheets::run(held, line);
-    if sheet.known {
-        return sheet.held;
-    }
-    let value = values::run(held, line);
-    if value.known {
-        return value.held;
-    }
-    let place = places::run(held, line);
-    if place.known {
-        return place.held;
-    }
-    let ran = runs::run(held, line);
-    if ran.known {
-        return ran.held;
-    }
-    let looked = images::run(held, line);
-    if looked.known {
-        return looked.held;
-    }
-    let called = stored::run(held, line);
-    if called.known {
-        return called.held;
-    }
-    print::text(b"? ");
-    print::text(line);
-    print::end();
-    held
-}
 
 fn run(text: &[u8]) {
     let mut held = Held::new();
     let mut at = 0;
     while at < text.len() {
-        let end = words::find(text, at, b'\n');
-        held = step(held, &text[at..end]);
+        let end = scan::find(text, at, text.len(), b'\n');
+        held = steps::step(held, &text[at..end]);
         if end == text.len() {
             return;
         }
@@ -139,9 +93,5 @@ fn run(text: &[u8]) {
 fn main() {
     let mut input = [0u8; 131072];
     let n = io::read_full(libc::STDIN_FILENO, &mut input);
-    if n == input.len() {
-        print::text(b"? the input is too long\n");
-        return;
-    }
     run(&input[..n]);
 }

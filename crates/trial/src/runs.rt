@@ -1,13 +1,10 @@
-// The commands on runs of places.
+// The command on runs of places.
 ghost use mathlib.Core.Path.{_≡_};
 ghost use Prim.Native.Nat.{_-_, _≤_};
 ghost use lib.ListN.{take, drop, replicate};
 ghost use Rattle.placement.specs.Placed.{Ran};
 use crate::answers;
-use crate::held::Held;
-use crate::held::Step;
 use crate::print;
-use crate::words;
 use design::Shelf;
 use design::Verdict;
 use placement::Spot;
@@ -32,7 +29,7 @@ fn lend(shelf: Shelf, first: usize, n: usize, before: Spot) -> Lent
 }
 
 fn record(spot: Spot) {
-    print::text(b" |");
+    print::say(print::BAR);
     print::place(spot.disk, spot.offset);
     print::place(spot.parity_disk, spot.parity_offset);
 }
@@ -45,7 +42,7 @@ fn records(list: [Spot; MOST], n: usize)
     }
 }
 
-fn show(shelf: Shelf, first: usize, n: usize)
+pub fn run(shelf: Shelf, first: usize, n: usize)
     requires { ⌜ n ≤ 32 ⌝ }
 {
     let before = Spot {
@@ -56,25 +53,7 @@ fn show(shelf: Shelf, first: usize, n: usize)
     };
     let lent = lend(shelf, first, n, before);
     let verdict = lent.verdict;
-    let list = lent.list;
-    print::text(b"run");
     answers::verdict(verdict);
+    let list = lent.list;
     records(list, n);
-    print::end();
-}
-
-fn run_line(held: Held, line: &[u8]) -> Step {
-    let n = words::number(line, 2);
-    if n > MOST {
-        return Step::other(held);
-    }
-    show(held.shelf, words::number(line, 1), n);
-    Step::done(held)
-}
-
-pub fn run(held: Held, line: &[u8]) -> Step {
-    if words::fits(line, b"run # #") {
-        return run_line(held, line);
-    }
-    Step::other(held)
 }

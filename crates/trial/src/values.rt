@@ -1,8 +1,6 @@
 // The commands on the shelf value.
-use crate::held::Held;
-use crate::held::Step;
+use crate::commands;
 use crate::print;
-use crate::words;
 use design::Loss;
 use design::Refusal;
 use design::Shelf;
@@ -19,48 +17,42 @@ pub fn numbers(shelf: Shelf) {
 }
 
 // The b·k entries in use, as far as the table goes. Entry i is of tuple i div k: b·k itself may be too large a number.
-fn entries(table: &[u8; Shelf::PLACES_MOST], k: usize, b: usize) {
-    if k == 0 {
+fn entries(shelf: Shelf) {
+    if shelf.k == 0 {
         return;
     }
     for i in 0..Shelf::PLACES_MOST {
-        if i / k >= b {
+        if i / shelf.k >= shelf.b {
             return;
         }
-        print::number(wide(table[i]));
+        print::number(shelf.table[i] as usize);
     }
 }
 
-// An element behind a reference is known to be a byte only as an argument.
-fn wide(entry: u8) -> usize {
-    entry as usize
-}
-
-fn show(shelf: Shelf) {
-    print::text(b"show");
-    numbers(shelf);
-    let loss = shelf.loss;
+fn loss(loss: Loss) {
     match loss {
-        Loss::Nothing => print::text(b" whole"),
+        Loss::Nothing => print::say(print::WHOLE),
         Loss::Disk(d) => {
-            print::text(b" lost");
-            print::number(wide(d));
+            print::say(print::LOST);
+            print::number(d as usize);
         }
     }
-    print::text(b" :");
-    let table = shelf.table;
-    entries(&table, shelf.k, shelf.b);
-    print::end();
 }
 
-fn judge(shelf: Shelf) {
-    print::text(b"shelf");
+pub fn show(shelf: Shelf) {
+    numbers(shelf);
+    let lost = shelf.loss;
+    loss(lost);
+    print::say(print::COLON);
+    entries(shelf);
+}
+
+pub fn judge(shelf: Shelf) {
     if shelf.is_shelf() {
         print::number(0);
     } else {
         print::number(Refusal::NotAShelf.number());
     }
-    print::end();
 }
 
 // A field that holds an enum is not set by itself: hence the value anew.
@@ -79,65 +71,24 @@ fn with_loss(shelf: Shelf, loss: Loss) -> Shelf {
     }
 }
 
-fn set_number(held: Held, line: &[u8]) -> Step {
-    let mut shelf = held.shelf;
-    let x = words::number(line, 2);
-    if words::fits(line, b"field v #") {
-        shelf.v = x;
-    } else if words::fits(line, b"field k #") {
-        shelf.k = x;
-    } else if words::fits(line, b"field b #") {
-        shelf.b = x;
-    } else if words::fits(line, b"field T #") {
-        shelf.T = x;
-    } else if words::fits(line, b"field u #") {
-        shelf.u = x;
-    } else if words::fits(line, b"field r #") {
-        shelf.r = x;
-    } else if words::fits(line, b"field lambda #") {
-        shelf.lambda = x;
-    } else {
-        return Step::other(held);
-    }
-    Step::done(held.with_shelf(shelf))
+fn with_entry(mut shelf: Shelf, i: usize, x: usize) -> Shelf {
+    shelf.table[i % Shelf::PLACES_MOST] = (x % 256) as u8;
+    shelf
 }
 
-fn set_entry(held: Held, i: usize, entry: usize) -> Step {
-    if i >= Shelf::PLACES_MOST {
-        return Step::other(held);
+// The shelf with x for one of its numbers, for entry i of its table or for its lost disk.
+pub fn set(mut shelf: Shelf, command: usize, i: usize, x: usize) -> Shelf {
+    match command {
+        commands::FIELD_V => shelf.v = x,
+        commands::FIELD_K => shelf.k = x,
+        commands::FIELD_B => shelf.b = x,
+        commands::FIELD_T => shelf.T = x,
+        commands::FIELD_U => shelf.u = x,
+        commands::FIELD_R => shelf.r = x,
+        commands::FIELD_LAMBDA => shelf.lambda = x,
+        commands::TABLE => shelf = with_entry(shelf, i, x),
+        commands::LOST => shelf = with_loss(shelf, Loss::Disk((x % 256) as u8)),
+        _ => shelf = with_loss(shelf, Loss::Nothing),
     }
-    if entry > 255 {
-        return Step::other(held);
-    }
-    let mut shelf = held.shelf;
-    shelf.table[i] = entry as u8;
-    Step::done(held.with_shelf(shelf))
-}
-
-fn set_lost(held: Held, disk: usize) -> Step {
-    if disk > 255 {
-        return Step::other(held);
-    }
-    Step::done(held.with_shelf(with_loss(held.shelf, Loss::Disk(disk as u8))))
-}
-
-pub fn run(held: Held, line: &[u8]) -> Step {
-    if words::fits(line, b"table # #") {
-        return set_entry(held, words::number(line, 1), words::number(line, 2));
-    }
-    if words::fits(line, b"lost #") {
-        return set_lost(held, words::number(line, 1));
-    }
-    if words::fits(line, b"whole") {
-        return Step::done(held.with_shelf(with_loss(held.shelf, Loss::Nothing)));
-    }
-    if words::fits(line, b"shelf") {
-        judge(held.shelf);
-        return Step::done(held);
-    }
-    if words::fits(line, b"show") {
-        show(held.shelf);
-        return Step::done(held);
-    }
-    set_number(held, line)
+    shelf
 }

@@ -1,85 +1,51 @@
-// The words of a line, with the numbers and bytes that they stand for.
-ghost use Prim.Native.Nat.{_≤_};
+// The words of a text, and the numbers and bytes that they stand for. A word has the space before it, but for the first: so a
+// missing word is empty, and an empty one is not.
+ghost use Prim.Native.Nat.{_*_, _≤_, _<_};
 ghost use lib.ListN.{length};
-
-// The most bytes that a word stands for.
-pub const MOST: usize = 2048;
+use bytes::scan;
 
 pub enum Parsed {
     Value(usize),
     Wrong,
 }
 
-// Where the byte stands next, from `from` on, or the text's end.
-pub fn find(text: &[u8], from: usize, byte: u8) -> usize
-    requires { ⌜ from ≤ length (now text) ⌝ }
-    ensures { λ r. ⌜ (from ≤ r) × (r ≤ length (now (text .entry))) ⌝ }
-{
-    let mut i = from;
-    while i < text.len() {
-        if text[i] == byte {
-            return i;
-        }
-        i += 1;
-    }
-    i
-}
-
-// Where word n starts, or the line's end.
-fn start(line: &[u8], n: usize) -> usize
-    ensures { λ r. ⌜ r ≤ length (now (line .entry)) ⌝ }
+// Where word n starts, or the text's end.
+fn start(text: &[u8], n: usize) -> usize
+    ensures { λ r. ⌜ r ≤ length (now (text .entry)) ⌝ }
 {
     let mut at = 0;
     for _ in 0..n {
-        let space = find(line, at, b' ');
-        if space == line.len() {
-            return space;
+        if at == text.len() {
+            return at;
         }
-        at = space + 1;
+        at = scan::find(text, at + 1, text.len(), b' ');
     }
     at
 }
 
-// Word n, empty where the line has no such word.
-fn word(line: &[u8], n: usize) -> &[u8] {
-    let from = start(line, n);
-    let to = find(line, from, b' ');
-    &line[from..to]
+fn first(text: &[u8]) -> &[u8] {
+    let n = start(text, 1);
+    &text[0..n]
 }
 
-// The command's name.
-pub fn name(line: &[u8]) -> &[u8] {
-    word(line, 0)
-}
-
-// A line has one word more than it has spaces.
-fn spaces(line: &[u8]) -> usize {
-    let mut n: usize = 0;
-    for i in 0..line.len() {
-        if line[i] == b' ' {
-            n += 1;
-        }
-    }
-    n
+pub fn word(text: &[u8], n: usize) -> &[u8] {
+    first(&text[start(text, n)..])
 }
 
 // What a digit stands for; 16 for any other byte.
 fn digit(byte: u8) -> usize
     ensures { λ r. ⌜ r ≤ 16 ⌝ }
 {
-    match byte {
-        b'0'..=b'9' => (byte - b'0') as usize,
-        b'A'..=b'F' => (byte - b'A') as usize + 10,
-        _ => 16,
-    }
+    scan::find(b"0123456789ABCDEF", 0, 16, byte)
 }
 
-fn decimal(word: &[u8]) -> Parsed {
-    if word.len() == 0 {
+// The number that stands from `from` on.
+pub fn decimal(word: &[u8], from: usize) -> Parsed {
+    if word.len() <= from {
         return Parsed::Wrong;
     }
     let mut value: usize = 0;
-    for i in 0..word.len() {
+    for i in from..word.len() {
         let unit = digit(word[i]);
         if unit > 9 {
             return Parsed::Wrong;
@@ -92,100 +58,59 @@ fn decimal(word: &[u8]) -> Parsed {
     Parsed::Value(value)
 }
 
-fn is_number(word: &[u8]) -> bool {
-    match decimal(word) {
-        Parsed::Value(_) => true,
-        Parsed::Wrong => false,
+// The value of two digits; 256, where one is none.
+fn pair(high: u8, low: u8) -> usize {
+    let high = digit(high);
+    let low = digit(low);
+    if high / 16 + low / 16 == 0 {
+        return 16 * high + low;
+    }
+    256
+}
+
+// More bytes than there is room for: what stands for no bytes has so many.
+pub const WRONG: usize = usize::MAX;
+
+// How many bytes the word stands for, by its length.
+fn pairs(word: &[u8]) -> usize {
+    if check::same(word, b" -") {
+        0
+    } else if word.len() % 2 == 0 {
+        WRONG
+    } else {
+        word.len() / 2
     }
 }
 
-fn all_digits(word: &[u8]) -> bool {
-    for i in 0..word.len() {
-        if digit(word[i]) > 15 {
-            return false;
-        }
-    }
-    true
-}
-
-fn is_bytes(word: &[u8]) -> bool {
-    if check::same(word, b"-") {
-        return true;
-    }
-    if word.len() == 0 {
-        return false;
-    }
-    if word.len() > 2 * MOST {
-        return false;
-    }
-    if word.len() % 2 == 1 {
-        return false;
-    }
-    all_digits(word)
-}
-
-// Whether a word is what a pattern's word asks: `#` a number, `*` bytes, any other itself.
-fn suits(word: &[u8], asked: &[u8]) -> bool {
-    if check::same(asked, b"#") {
-        return is_number(word);
-    }
-    if check::same(asked, b"*") {
-        return is_bytes(word);
-    }
-    check::same(word, asked)
-}
-
-fn word_suits(line: &[u8], pattern: &[u8], n: usize) -> bool {
-    suits(word(line, n), word(pattern, n))
-}
-
-// Whether the line is of the pattern, word for word. A missing word is empty, and suits nothing.
-pub fn fits(line: &[u8], pattern: &[u8]) -> bool {
-    let last = spaces(pattern);
-    for n in 0..last {
-        if !word_suits(line, pattern, n) {
-            return false;
-        }
-    }
-    if spaces(line) != last {
-        return false;
-    }
-    word_suits(line, pattern, last)
-}
-
-// The number that word n stands for; 0 where it is none.
-pub fn number(line: &[u8], n: usize) -> usize {
-    match decimal(word(line, n)) {
-        Parsed::Value(x) => x,
-        Parsed::Wrong => 0,
-    }
-}
-
-// The value of two digits.
-fn pair(high: u8, low: u8) -> u8 {
-    (digit(high) % 16 * 16 + digit(low) % 16) as u8
-}
-
-fn least(a: usize, b: usize) -> usize
-    ensures { λ r. ⌜ (r ≤ a) × (r ≤ b) ⌝ }
+// Puts the first n bytes of a word at the start of `out`, and answers n.
+fn put_pairs(word: &[u8], out: &mut [u8], n: usize) -> usize
+    requires { ⌜ n ≤ length (now out) ⌝ }
+    requires { ⌜ 2 * n < length (now word) ⌝ }
 {
-    if a < b { a } else { b }
-}
-
-// Puts the bytes of a word at the start of `out`, and answers how many there are.
-fn put(word: &[u8], out: &mut [u8]) -> usize
-    ensures { λ r. ⌜ r ≤ length (now (out .exit)) ⌝ }
-{
-    let n = least(word.len() / 2, out.len());
+    let mut answer = n;
     for i in 0..n {
-        out[i] = pair(word[2 * i], word[2 * i + 1]);
+        let byte = pair(word[2 * i + 1], word[2 * i + 2]);
+        out[i] = (byte % 256) as u8;
+        if byte > 255 {
+            answer = WRONG;
+        }
+    }
+    answer
+}
+
+// Puts the bytes that a word stands for at the start of `out`, and answers how many there are.
+pub fn put(word: &[u8], out: &mut [u8]) -> usize {
+    let n = pairs(word);
+    if n <= out.len() {
+        if n < (word.len() + 1) / 2 {
+            return put_pairs(word, out, n);
+        }
     }
     n
 }
 
-// Puts the bytes that word n stands for at the start of `out`, and answers how many there are.
-pub fn bytes(line: &[u8], n: usize, out: &mut [u8]) -> usize
-    ensures { λ r. ⌜ r ≤ length (now (out .exit)) ⌝ }
+pub fn least(a: usize, b: usize) -> usize
+    ensures { λ r. ⌜ (r ≤ a) × (r ≤ b) ⌝ }
 {
-    put(word(line, n), out)
+    if a < b { a } else { b }
 }

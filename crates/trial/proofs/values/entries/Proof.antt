@@ -5,10 +5,10 @@ use Rattle.trial.proofs.values.entries.Statement.{statement}
 use Rattle.trial.proofs.values.entries.Tie as tie
 
 abbrev Inv-loop : tie.InvT-loop
-Inv-loop table k b i₀ i = i ≤ 2048
+Inv-loop shelf i₀ i = i ≤ 2048
 
 abbrev μ-loop : tie.MeasureT-loop
-μ-loop table k b i₀ i = 2048 - i
+μ-loop shelf i₀ i = 2048 - i
 
 pub entries-spec : {M : Type 1} → statement M
 entries-spec =
@@ -21,7 +21,7 @@ entries-spec =
     (λ c. search needs)
     (λ c. search needs)
     (λ c. search needs)
-    (λ c κs. search needs)
+    (λ c. search needs)
     (λ c κs. search needs)
     (λ c. search needs)
     (λ c. search needs)

@@ -5,10 +5,10 @@ use Rattle.trial.proofs.words.decimal.Statement.{statement}
 use Rattle.trial.proofs.words.decimal.Tie as tie
 
 abbrev Inv-loop : tie.InvT-loop
-Inv-loop word value₀ i₀ i-end value i = i ≤ i-end
+Inv-loop word from value₀ i₀ i-end value i = i ≤ i-end
 
 abbrev μ-loop : tie.MeasureT-loop
-μ-loop word value₀ i₀ i-end value i = i-end - i
+μ-loop word from value₀ i₀ i-end value i = i-end - i
 
 pub decimal-spec : {M : Type 1} → statement M
 decimal-spec =

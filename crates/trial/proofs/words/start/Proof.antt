@@ -6,10 +6,10 @@ use Rattle.trial.proofs.words.start.Statement.{statement}
 use Rattle.trial.proofs.words.start.Tie as tie
 
 abbrev Inv-loop : tie.InvT-loop
-Inv-loop line n at₀ counter₀ at counter = (counter ≤ n) × (at ≤ length line)
+Inv-loop text n at₀ counter₀ at counter = (counter ≤ n) × (at ≤ length text)
 
 abbrev μ-loop : tie.MeasureT-loop
-μ-loop line n at₀ counter₀ at counter = n - counter
+μ-loop text n at₀ counter₀ at counter = n - counter
 
 pub start-spec : {M : Type 1} → statement M
 start-spec =
@@ -18,9 +18,9 @@ start-spec =
     Inv-loop
     μ-loop
     (λ c. search needs)
+    (λ c. search needs)
+    (λ c. search needs)
     (λ c κs. search needs)
-    (λ c. search needs)
-    (λ c. search needs)
     (λ c. search needs)
     (λ c. search needs)
     (λ c. search needs)

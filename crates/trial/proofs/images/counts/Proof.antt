@@ -1,8 +1,8 @@
--- `trial::stored::counts` is safe and ends. Assumes nothing.
+-- `trial::images::counts` is safe and ends. Assumes nothing.
 use Prim.Native.Nat.{_-_, _≤_}
 use borrow.Author.Needs.{needs}
-use Rattle.trial.proofs.stored.counts.Statement.{statement}
-use Rattle.trial.proofs.stored.counts.Tie as tie
+use Rattle.trial.proofs.images.counts.Statement.{statement}
+use Rattle.trial.proofs.images.counts.Tie as tie
 
 abbrev Inv-loop : tie.InvT-loop
 Inv-loop counts e₀ e = e ≤ 64

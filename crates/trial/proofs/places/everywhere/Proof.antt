@@ -1,8 +1,8 @@
--- `trial::places::go_through` is safe and ends. Assumes nothing.
+-- `trial::places::everywhere` is safe and ends. Assumes nothing.
 use Prim.Native.Nat.{_-_, _≤_}
 use borrow.Author.Needs.{needs}
-use Rattle.trial.proofs.places.go_through.Statement.{statement}
-use Rattle.trial.proofs.places.go_through.Tie as tie
+use Rattle.trial.proofs.places.everywhere.Statement.{statement}
+use Rattle.trial.proofs.places.everywhere.Tie as tie
 
 abbrev Inv-loop : tie.InvT-loop
 Inv-loop shelf address₀ address = address ≤ 100000
@@ -10,8 +10,8 @@ Inv-loop shelf address₀ address = address ≤ 100000
 abbrev μ-loop : tie.MeasureT-loop
 μ-loop shelf address₀ address = 100000 - address
 
-pub go-through-spec : {M : Type 1} → statement M
-go-through-spec =
+pub everywhere-spec : {M : Type 1} → statement M
+everywhere-spec =
     tie.close
     (tie.spec
     Inv-loop
@@ -20,10 +20,15 @@ go-through-spec =
     (λ c κs. search needs)
     (λ c. search needs)
     (λ c. search needs)
+    (λ c κs. search needs)
     (λ c. search needs)
+    (λ c κs. search needs)
+    (λ c κs. search needs)
+    (λ c κs. search needs)
     (λ c κs. search needs)
     (λ c. search needs)
     (λ c. search needs)
     (λ c. search needs)
     (λ c. search needs)
+    (λ c κs. search needs)
     (λ c. search needs))

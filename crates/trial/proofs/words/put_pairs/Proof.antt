@@ -1,19 +1,19 @@
--- `trial::sheets::add` is safe and ends. The loop's invariant: the pending bytes stay as many. Assumes nothing.
+-- `trial::words::put_pairs` is safe and ends. The loop's invariant: `out` keeps its length. Assumes nothing.
 use mathlib.Core.Path.{_≡_}
 use Prim.Native.Nat.{_-_, _≤_}
 use lib.ListN.{length}
 use borrow.Author.Needs.{needs}
-use Rattle.trial.proofs.sheets.add.Statement.{statement}
-use Rattle.trial.proofs.sheets.add.Tie as tie
+use Rattle.trial.proofs.words.put_pairs.Statement.{statement}
+use Rattle.trial.proofs.words.put_pairs.Tie as tie
 
 abbrev Inv-loop : tie.InvT-loop
-Inv-loop pending₀ at bytes i₀ i-end pending i = (i ≤ i-end) × (length pending ≡ length pending₀)
+Inv-loop word out₀ n answer₀ i₀ out answer i = (i ≤ n) × (length out ≡ length out₀)
 
 abbrev μ-loop : tie.MeasureT-loop
-μ-loop pending₀ at bytes i₀ i-end pending i = i-end - i
+μ-loop word out₀ n answer₀ i₀ out answer i = n - i
 
-pub add-spec : {M : Type 1} → statement M
-add-spec =
+pub put-pairs-spec : {M : Type 1} → statement M
+put-pairs-spec =
     tie.close
     (tie.spec
     Inv-loop
@@ -24,6 +24,8 @@ add-spec =
     (λ c. search needs)
     (λ c. search needs)
     (λ c. search needs)
+    (λ c. search needs)
+    (λ c κs. search needs)
     (λ c. search needs)
     (λ c. search needs)
     (λ c. search needs)
