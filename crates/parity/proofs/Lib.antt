@@ -35,6 +35,7 @@ pub mod PromisedStripe
 pub mod PromisedRebuild
 pub mod Refused
 pub mod Shown
+pub mod Numerals
 pub mod Unique
 pub mod Memory
 pub mod Remembered

@@ -15,6 +15,7 @@ pub mod Calls
 pub mod Rows
 pub mod Spread
 pub mod Shares
+pub mod Numerals
 pub mod Unique
 pub mod Flat
 pub mod Bounds
