@@ -1,8 +1,8 @@
 -- Which number each call gives, as numerals in the order in which they are tried (document 01, "Numbers a caller can get"); a show
 -- gives the empty part exactly where one of its numbers applies. Assumes nothing.
-use mathlib.Core.Path.{_≡_, refl, sym, ap, _∙_}
+use mathlib.Core.Path.{_≡_, refl, ap, _∙_}
 use mathlib.Core.Logic.{_↔_}
-use mathlib.Core.Bool.{Bool, not, _&&_}
+use mathlib.Core.Bool.{not, _&&_}
 use mathlib.Core.List.{List, [], _∷_}
 use Prim.Native.Nat.{ℕ, _+_, _-_, _*_, _≤_}
 use native.Mathlib.Omega.{arith}
@@ -12,7 +12,7 @@ use Rattle.design.specs.declared.Refusal.{Refusal}
 use Rattle.design.specs.declared.Shelf.{Shelf}
 use Rattle.design.specs.declared.Verdict.{Verdict}
 use Rattle.design.specs.declared.Verdict.the-variants.{Accepted, Refused}
-use Rattle.design.specs.Refusals.{Rule, number, firstBroken}
+use Rattle.design.specs.Refusals.{number, firstBroken}
 use Rattle.design.specs.Shelf.{isShelf}
 use Rattle.design.proofs.Lowest.{verdictNumber, some-number}
 use Rattle.design.proofs.Numerals.{Case, case, firstOf, rules-give}
