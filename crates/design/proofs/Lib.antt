@@ -2,6 +2,7 @@ pub mod Counting
 pub mod Sums
 pub mod Tests
 pub mod Twice
+pub mod Losses
 pub mod ShelfTests
 pub mod Bits
 pub mod Lanes

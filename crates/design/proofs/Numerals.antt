@@ -6,13 +6,13 @@ use mathlib.Core.List.{List, [], _∷_, map}
 use Prim.Native.Nat.{ℕ, _*_, _<_}
 use lib.Dec.{leb, eqb}
 use lib.ListN.{length, getD, length-replicate, getD-replicate}
-use Rattle.design.specs.declared.Loss.the-variants.{Nothing}
 use Rattle.design.specs.declared.Refusal.the-variants.{ShortSheet, OtherEdition, OutsideLimits, OtherLength, DiskOutside, DiskTwice, FillingSet, DisksUneven, PairsUneven, NotAShelf, OtherImage, OutOfRange, OtherBuffer, SomeLost, NoneLost}
 use Rattle.design.specs.declared.Shelf.{Shelf}
 use Rattle.design.specs.declared.Verdict.the-variants.{Refused}
 use Rattle.design.specs.Refusals.{Rule, number, firstBroken}
 use Rattle.design.specs.Tuples.{before, shared, disksBelow, noneTwice, disksEven, pairsEven}
 use Rattle.design.specs.Sheet.{editionOf, vOf, kOf, bOf, TOf, uOf, designOf, sheetLength, withinLimits, fillingZero, sheetRules, tableSize, opened, emptyShelf}
+use Rattle.design.specs.Loss.{noLoss}
 use Rattle.design.specs.Shelf.{isShelf, backRules}
 use Rattle.design.proofs.Lowest.{verdictNumber}
 use Rattle.design.proofs.Refused.{opened-verdict}
@@ -101,7 +101,7 @@ pub record Empty (h : Shelf) : Type 0 where
   pub lambda : h .lambda ≡ 0
   pub entries : (i : ℕ) → i < 2048 → getD (h .table) i 1 ≡ 0
   pub length : length (h .table) ≡ 2048
-  pub loss : h .loss ≡ Nothing
+  pub loss : h .loss ≡ noLoss
 
 pub empty-is-zero : Empty emptyShelf
 unfolding emptyShelf

@@ -8,12 +8,13 @@ use lib.Dec.{leb, ltb, eqb}
 use lib.ListN.{length, getD}
 use borrow.Author.Tests.{eq-eqb}
 use Rattle.design.specs.declared.Shelf.{Shelf}
-use Rattle.design.specs.declared.Loss.the-variants.{Nothing}
+use Rattle.design.specs.declared.Loss.{Loss}
 use Rattle.design.specs.declared.Refusal.the-variants.{ShortSheet, OtherEdition, OutsideLimits, OtherLength, DiskOutside, DiskTwice, FillingSet, DisksUneven, PairsUneven}
 use Rattle.design.specs.declared.Verdict.the-variants.{Accepted, Refused}
 use Rattle.design.specs.Count.{every}
 use Rattle.design.specs.Refusals.{Rule, firstBroken}
 use Rattle.design.specs.Tuples.{Design, inTable, Different, holds, before, shared, disksBelow, noneTwice, disksEven, pairsEven}
+use Rattle.design.specs.Loss.{noLoss}
 use Rattle.design.specs.inner.Planes.{counted}
 use Rattle.design.specs.inner.Tally.{Tallied}
 use Rattle.design.specs.Sheet.{editionOf, vOf, kOf, bOf, TOf, uOf, sheetLength, tableOf, withinLimits, fillingZero, sheetRules, shelfOf, openedBy, opened, HeaderRead}
@@ -74,11 +75,11 @@ module _ (s : List ℕ) (v k b T u : ℕ) (h : HeaderRead s v k b T u) where
       rw (h .long, h .edition, within, exact, h .v-is, h .k-is, h .b-is)
 
   -- the shelf, by what was read
-  pub shelf-read : {r lambda : ℕ} {table : List ℕ} → table ≡ tableOf s (b * k) → r ≡ before (readDesign s v k b) b 0
-      → lambda ≡ shared (readDesign s v k b) b 1 0
-      → _≡_ {A = Shelf} (record { v = v; k = k; b = b; T = T; u = u; r = r; lambda = lambda; table = table; loss = Nothing }) (shelfOf s)
+  pub shelf-read : {r lambda : ℕ} {table : List ℕ} {loss : Loss} → table ≡ tableOf s (b * k) → r ≡ before (readDesign s v k b) b 0
+      → lambda ≡ shared (readDesign s v k b) b 1 0 → loss ≡ noLoss
+      → _≡_ {A = Shelf} (record { v = v; k = k; b = b; T = T; u = u; r = r; lambda = lambda; table = table; loss = loss }) (shelfOf s)
   unfolding shelfOf
-  shelf-read p q l = rw (p, q, l, h .v-is, h .k-is, h .b-is, h .T-is, h .u-is)
+  shelf-read p q l n = rw (p, q, l, n, h .v-is, h .k-is, h .b-is, h .T-is, h .u-is)
 
   pub disk-outside : disksBelow (readDesign s v k b) ≡ false → openedBy (Refused DiskOutside) [] ≡ opened s
   unfolding firstBroken tableRules openedBy

@@ -18,29 +18,18 @@ use Rattle.fields.specs.Field.{withField, Wrote}
 use Rattle.fields.specs.declared.Stored.{Stored}
 use Rattle.fields.proofs.Writes.{Inside, length-withField}
 use Rattle.fields.proofs.Laws.{wrote-done}
-use Rattle.design.specs.declared.Loss.the-variants.{Nothing}
 use Rattle.design.specs.declared.Shelf.{Shelf}
 use Rattle.design.specs.declared.WriteBack.the-variants as WriteBack
 use Rattle.design.specs.declared.Refusal.the-variants.{NotAShelf, OtherBuffer}
 use Rattle.design.specs.Refusals.{firstBroken}
+use Rattle.design.specs.Loss.{noLoss, withLoss}
 use Rattle.design.specs.Sheet.{sheetLength}
 use Rattle.design.specs.Shelf.{Piece, packed, headerIn, numbersIn, sheetIn, isShelf, backRules, backAnswer, backBuffer, WroteBack}
 use Rattle.design.proofs.Shelf.{the-type}
 
 -- the shelf with no disk lost
 abbrev pub whole : Shelf → Shelf
-whole h =
-    record {
-      v = h .v;
-      k = h .k;
-      b = h .b;
-      T = h .T;
-      u = h .u;
-      r = h .r;
-      lambda = h .lambda;
-      table = h .table;
-      loss = Nothing;
-    }
+whole h = withLoss h noLoss
 
 -- the lost disk is not part of a sheet
 pub loss-unwritten : (h : Shelf) → sheetIn (whole h) ≡ sheetIn h

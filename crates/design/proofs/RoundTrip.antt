@@ -17,12 +17,14 @@ use Rattle.design.specs.declared.Shelf.{Shelf}
 use Rattle.design.specs.declared.Verdict.the-variants.{Accepted, Refused}
 use Rattle.design.specs.Tuples.{Design, before, shared, disksBelow, noneTwice, disksEven, pairsEven}
 use Rattle.design.specs.Sheet.{vOf, kOf, bOf, numberOf, designOf, tableSize, tableOf, emptyShelf, shelfOf, openedBy, opened, HeaderRead}
-use Rattle.design.specs.Shelf.{designIn, lossBelow, isShelf, headerIn, sheetIn}
+use Rattle.design.specs.Loss.{lossBelow}
+use Rattle.design.specs.Shelf.{designIn, isShelf, headerIn, sheetIn}
 use Rattle.design.proofs.Counting.{decided, fails}
 use Rattle.design.proofs.Reading.{filled-table, table-inside, table-past, length-table}
 use Rattle.design.proofs.Opening.{readDesign, shelf-read, accepted}
 use Rattle.design.proofs.Tests.{limits, below-at, below-of, disks-even, pairs-even}
 use Rattle.design.proofs.Twice.{twice}
+use Rattle.design.proofs.Losses.{none-below}
 use Rattle.design.proofs.ShelfTests.{IsShelf, shelf-parts, shelf-whole}
 use Rattle.design.proofs.Refused.{accepted-shelf, refused-empty}
 use Rattle.design.proofs.Accepted.{disks-below, filling-zero, accepted-well-formed, balanced-as-counted}
@@ -32,14 +34,14 @@ use Rattle.design.proofs.Written.{disksIn, SheetOf, length-disks, one-s
 
 -- a lost disk below v makes no difference
 whole-shelf : (h : Shelf) → lossBelow (h .loss) (h .v) ≡ true → isShelf (whole h) ≡ isShelf h
-unfolding isShelf lossBelow
-whole-shelf h l = rw l
+unfolding isShelf
+whole-shelf h l = rw (l, none-below (h .v))
 
 -- ---- opening
 
 module _ (s : List ℕ) (e : opened s .verdict ≡ Accepted) where
   shelf-opened : IsShelf (shelfOf s)
-  unfolding shelfOf lossBelow
+  unfolding shelfOf
   shelf-opened =
       let w = accepted-well-formed s e in
       let balanced = balanced-as-counted s e in
@@ -51,7 +53,7 @@ module _ (s : List ℕ) (e : opened s .verdict ≡ Accepted) where
         different = balanced .different;
         often = balanced .often;
         paired = λ d f m l. balanced .paired d f m (omega arith) (omega arith);
-        loss = refl;
+        loss = none-below (vOf s);
       }
 
   pub opened-is-shelf : isShelf (opened s .shelf) ≡ true
@@ -141,7 +143,7 @@ module _ (h : Shelf) (w : IsShelf h) (full : length (h .table) ≡ tableSize) (s
       let pairs = ap₂ pairsEven same lambda-read ∙ pairs-even D (h .lambda) .1 (w .paired) in
       sym (accepted s (h .v) (h .k) (h .b) (h .T) (h .u) header-read below once filling even pairs)
       ∙ ap (λ (x : Shelf). record { verdict = Accepted; shelf = x })
-      (sym (shelf-read s (h .v) (h .k) (h .b) (h .T) (h .u) header-read table-read (sym r-read) (sym lambda-read)))
+      (sym (shelf-read s (h .v) (h .k) (h .b) (h .T) (h .u) header-read table-read (sym r-read) (sym lambda-read) refl))
 
 -- a value that an accepted opening can give
 pub record Given (h : Shelf) : Type 0 where

@@ -13,7 +13,8 @@ use Rattle.design.specs.declared.Repeat.the-variants as Repeat
 use Rattle.design.specs.declared.Shelf.{Shelf}
 use Rattle.design.specs.Tuples.{before, shared, Different, disksBelow, noneTwice, disksEven, pairsEven}
 use Rattle.design.specs.Sheet.{withinLimits, Limits}
-use Rattle.design.specs.Shelf.{designIn, zeroPast, lossBelow, isShelf}
+use Rattle.design.specs.Loss.{lossBelow}
+use Rattle.design.specs.Shelf.{designIn, zeroPast, isShelf}
 use Rattle.design.specs.inner.Table.{isTable}
 use Rattle.design.proofs.Counting.{decided, both-of, every-at, every-of}
 use Rattle.design.proofs.Tests.{joined, each-passes, limits, below-at, below-of, disks-even, pairs-even}

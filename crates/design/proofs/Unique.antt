@@ -3,11 +3,19 @@
 use mathlib.Core.Path.{_≡_, sym, _∙_}
 use mathlib.Core.Bool.{Bool}
 use Prim.Native.Nat.{ℕ}
+use Rattle.design.specs.declared.Loss.{Loss}
 use Rattle.design.specs.declared.Refusal.{Refusal}
 use Rattle.design.specs.declared.Shelf.{Shelf}
 use Rattle.design.specs.Refusals.{number}
+use Rattle.design.specs.Loss.{noLoss, diskLoss}
 use Rattle.design.specs.Sheet.{emptyShelf}
 use Rattle.design.specs.Shelf.{isShelf}
+
+pub none-unique : (r r′ : Loss) → r ≡ noLoss → r′ ≡ noLoss → r ≡ r′
+none-unique r r′ p q = p ∙ sym q
+
+pub of-unique : (d : ℕ) (r r′ : Loss) → r ≡ diskLoss d → r′ ≡ diskLoss d → r ≡ r′
+of-unique d r r′ p q = p ∙ sym q
 
 pub empty-unique : (r r′ : Shelf) → r ≡ emptyShelf → r′ ≡ emptyShelf → r ≡ r′
 empty-unique r r′ p q = p ∙ sym q

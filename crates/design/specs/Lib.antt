@@ -1,6 +1,7 @@
 pub mod Count
 pub mod Refusals
 pub mod Tuples
+pub mod Loss
 pub mod Sheet
 pub mod Shelf
 pub mod inner

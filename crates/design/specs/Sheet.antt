@@ -6,7 +6,6 @@ use Prim.Native.Nat.{ℕ, _+_, _-_, _*_, _/_, _≤_, _<_, min}
 use lib.Dec.{leb, ltb, eqb}
 use lib.ListN.{length, replicate}
 use Rattle.fields.specs.Field.{bitAt, field}
-use Rattle.design.specs.declared.Loss.the-variants.{Nothing}
 use Rattle.design.specs.declared.Shelf.{Shelf}
 use Rattle.design.specs.declared.Opened.{Opened}
 use Rattle.design.specs.declared.Verdict.{Verdict}
@@ -14,6 +13,7 @@ use Rattle.design.specs.declared.Verdict.the-variants.{Accepted, Refused
 use Rattle.design.specs.declared.Refusal.the-variants.{ShortSheet, OtherEdition, OutsideLimits, OtherLength, DiskOutside, DiskTwice, FillingSet, DisksUneven, PairsUneven}
 use Rattle.design.specs.Count.{listFrom}
 use Rattle.design.specs.Refusals.{Rule, firstBroken}
+use Rattle.design.specs.Loss.{noLoss}
 use Rattle.design.specs.Tuples.{Design, inTable, before, shared, disksBelow, noneTwice, disksEven, pairsEven}
 
 -- ---- the fields
@@ -83,7 +83,7 @@ sheetRules s =
 
 -- every number zero, no disk lost
 unfoldable pub emptyShelf : Shelf
-emptyShelf = record { v = 0; k = 0; b = 0; T = 0; u = 0; r = 0; lambda = 0; table = replicate tableSize 0; loss = Nothing }
+emptyShelf = record { v = 0; k = 0; b = 0; T = 0; u = 0; r = 0; lambda = 0; table = replicate tableSize 0; loss = noLoss }
 
 unfoldable pub shelfOf : List ℕ → Shelf
 shelfOf s =
@@ -96,7 +96,7 @@ shelfOf s =
       r = before (designOf s) (bOf s) 0;
       lambda = shared (designOf s) (bOf s) 1 0;
       table = tableOf s (bOf s * kOf s);
-      loss = Nothing;
+      loss = noLoss;
     }
 
 -- a sheet that keeps its rules gives its shelf, any other its refusal and the empty shelf

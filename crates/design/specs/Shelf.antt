@@ -1,13 +1,11 @@
 -- Document 01, "The shelf value and the calls": which shelf values a call takes (number 10), and writing one back.
 use mathlib.Core.Path.{_≡_}
-use mathlib.Core.Bool.{Bool, true, _&&_, _||_}
+use mathlib.Core.Bool.{Bool, _&&_, _||_}
 use mathlib.Core.List.{List, [], _∷_, _++_, map}
 use Prim.Native.Nat.{ℕ, _+_, _*_}
 use lib.Dec.{leb, ltb, eqb}
 use lib.ListN.{length, getD, take, drop, replicate}
 use Rattle.fields.specs.Field.{withField}
-use Rattle.design.specs.declared.Loss.{Loss}
-use Rattle.design.specs.declared.Loss.the-variants.{Nothing, Disk}
 use Rattle.design.specs.declared.Shelf.{Shelf}
 use Rattle.design.specs.declared.Verdict.{Verdict}
 use Rattle.design.specs.declared.Verdict.the-variants.{Accepted, Refused}
@@ -17,6 +15,7 @@ use Rattle.design.specs.declared.Refusal.the-variants.{NotAShelf, OtherB
 use Rattle.design.specs.Count.{every}
 use Rattle.design.specs.Refusals.{Rule, firstBroken}
 use Rattle.design.specs.Tuples.{Design, inTable, disksBelow, noneTwice, disksEven, pairsEven}
+use Rattle.design.specs.Loss.{lossBelow}
 use Rattle.design.specs.Sheet.{withinLimits, sheetLength, tableSize}
 
 -- ---- number 10
@@ -26,10 +25,6 @@ designIn h = inTable (h .v) (h .k) (h .b) (h .table)
 
 unfoldable pub zeroPast : List ℕ → ℕ → Bool
 zeroPast table n = every tableSize (λ i. ltb i n || eqb (getD table i 0) 0)
-
-unfoldable pub lossBelow : Loss → ℕ → Bool
-lossBelow Nothing v = true
-lossBelow (Disk d) v = ltb d v
 
 -- one that an accepted opening can give, a lost disk below v apart
 unfoldable pub isShelf : Shelf → Bool

@@ -1,6 +1,7 @@
 // The design: the sheet, the shelf value, and the rules of a balanced design (document 01, "The sheet").
 ghost use mathlib.Core.Path.{_≡_};
 ghost use Rattle.design.specs.Refusals.{number};
+ghost use Rattle.design.specs.Loss.{noLoss, diskLoss};
 ghost use Rattle.design.specs.Sheet.{emptyShelf, opened};
 ghost use Rattle.design.specs.Shelf.{isShelf, WroteBack};
 
@@ -62,9 +63,34 @@ pub enum Verdict {
 }
 
 // Which disk is lost, if any.
-pub enum Loss {
+pub enum Lost {
     Nothing,
     Disk(u8),
+}
+
+// What a shelf has lost: the one part of it that calls change.
+pub struct Loss {
+    pub lost: Lost,
+}
+
+impl Loss {
+    // No disk is lost.
+    pub fn none() -> Loss
+        ensures { λ r. ⌜ r ≡ noLoss ⌝ }
+    {
+        Loss {
+            lost: Lost::Nothing,
+        }
+    }
+
+    // A disk is lost.
+    pub fn of(disk: u8) -> Loss
+        ensures { λ r. ⌜ r ≡ diskLoss disk ⌝ }
+    {
+        Loss {
+            lost: Lost::Disk(disk),
+        }
+    }
 }
 
 // The disk that stands twice in a tuple, if any.
@@ -77,7 +103,7 @@ pub enum Repeat {
 pub type Table = [u8; Shelf::PLACES_MOST];
 
 // A shelf value: the numbers of its sheet, what opening counted, the disk numbers tuple after tuple (zero past b·k),
-// and the lost disk.
+// and what is lost.
 pub struct Shelf {
     pub v: usize,
     pub k: usize,
@@ -126,6 +152,7 @@ impl Shelf {
     pub fn empty() -> Shelf
         ensures { λ r. ⌜ r ≡ emptyShelf ⌝ }
     {
+        let loss = Loss::none();
         Shelf {
             v: 0,
             k: 0,
@@ -135,7 +162,7 @@ impl Shelf {
             r: 0,
             lambda: 0,
             table: [0u8; Shelf::PLACES_MOST],
-            loss: Loss::Nothing,
+            loss,
         }
     }
 

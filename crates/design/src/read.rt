@@ -85,6 +85,7 @@ fn open_table(sheet: &[u8], v: usize, k: usize, b: usize, t: usize, u: usize) ->
     if !tally::pairs_even(&counts, v, lambda) {
         return refused(Refusal::PairsUneven);
     }
+    let loss = Loss::none();
     Opened {
         verdict: Verdict::Accepted,
         shelf: Shelf {
@@ -96,7 +97,7 @@ fn open_table(sheet: &[u8], v: usize, k: usize, b: usize, t: usize, u: usize) ->
             r,
             lambda,
             table,
-            loss: Loss::Nothing,
+            loss,
         },
     }
 }

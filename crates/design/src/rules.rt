@@ -5,10 +5,12 @@ ghost use lib.Dec.{ltb};
 ghost use lib.ListN.{getD};
 ghost use Rattle.design.specs.Count.{every};
 ghost use Rattle.design.specs.Tuples.{inTable, repeated, noneTwice};
+ghost use Rattle.design.specs.Loss.{lossBelow};
 ghost use Rattle.design.specs.Sheet.{withinLimits};
-ghost use Rattle.design.specs.Shelf.{zeroPast, lossBelow, isShelf};
+ghost use Rattle.design.specs.Shelf.{zeroPast, isShelf};
 ghost use Rattle.design.specs.inner.Table.{isTable};
 use crate::Loss;
+use crate::Lost;
 use crate::Repeat;
 use crate::Shelf;
 use crate::Table;
@@ -120,9 +122,10 @@ pub fn zero_past(table: &Table, n: usize) -> bool
 fn loss_below(loss: Loss, v: usize) -> bool
     ensures { λ r. ⌜ r ≡ lossBelow loss v ⌝ }
 {
-    match loss {
-        Loss::Nothing => true,
-        Loss::Disk(d) => (d as usize) < v,
+    let lost = loss.lost;
+    match lost {
+        Lost::Nothing => true,
+        Lost::Disk(d) => (d as usize) < v,
     }
 }
 

@@ -20,7 +20,7 @@ losing-shelf h d is e = lose-accepted h d .0 (ap (λ (x : Losing). x .verdict) (
 
 count-length : (v : Verdict) (h : Shelf) → length (rebuilding v h .counts) ≡ 64
 unfolding by
-count-length Accepted h = length-listFrom 0 64 (readFrom h (h .loss))
+count-length Accepted h = length-listFrom 0 64 (readFrom h)
 count-length (Refused x) h = length-replicate {A = ℕ} 64 0
 
 module _ (h : Shelf) (image : List ℕ) {answer : Rebuilding} {image′ : List ℕ} (kept : Rebuilt h image answer image′) where

@@ -6,17 +6,17 @@ use native.Mathlib.Omega.{arith}
 use lib.Dec.{eqb}
 use lib.ListN.{length}
 use borrow.Author.Tests.{eqb-true, eqb-false}
-use Rattle.design.specs.declared.Loss.the-variants.{Nothing, Disk}
 use Rattle.design.specs.declared.Shelf.{Shelf}
 use Rattle.design.specs.declared.Verdict.{Verdict}
 use Rattle.design.specs.declared.Verdict.the-variants.{Accepted, Refused}
+use Rattle.design.specs.Loss.{noLoss, diskLoss, withLoss}
 use Rattle.design.specs.Sheet.{opened, shelfOf}
 use Rattle.design.proofs.Reading.{length-table}
 use Rattle.design.proofs.Lowest.{some-number}
 use Rattle.design.proofs.Refused.{accepted-shelf}
 use Rattle.design.proofs.RoundTrip.{opened-is-shelf}
 use Rattle.parity.specs.declared.Rebuilding.{Rebuilding}
-use Rattle.parity.specs.Calls.{lost, withLoss}
+use Rattle.parity.specs.Calls.{lost}
 use Rattle.parity.proofs.Accepted.{lose-accepted, rebuild-accepted}
 use Rattle.parity.proofs.By.{by-accepted}
 use Rattle.parity.proofs.Cases.{cases}
@@ -57,17 +57,17 @@ open-leaves sheet out r out′ p e =
 
 -- ---- lose and rebuild
 
-pub lose-leaves : (value : List ℕ) (d r : ℕ) (value′ : List ℕ) → HostLost value d r value′ → r ≡ 0 → shelfIn value′ ≡ withLoss (shelfIn value) (Disk d)
+pub lose-leaves : (value : List ℕ) (d r : ℕ) (value′ : List ℕ) → HostLost value d r value′ → r ≡ 0 → shelfIn value′ ≡ withLoss (shelfIn value) (diskLoss d)
 unfolding lost
 lose-leaves value d r value′ p e =
     let h = shelfIn value in
     let a = zero-accepted (lost h d .verdict) (sym (p .0) ∙ e) in
     let w = lose-accepted h d .0 a in
-    ap shelfIn (p .1 ∙ by-accepted (withShelf value (lost h d .shelf)) value a ∙ ap (withShelf value) (by-accepted (withLoss h (Disk d)) h a))
-    ∙ put-back (withLoss h (Disk d)) (lose-shelf h d (w .shelf) (w .disk)) (held-table value) value (value-length value (w .shelf))
+    ap shelfIn (p .1 ∙ by-accepted (withShelf value (lost h d .shelf)) value a ∙ ap (withShelf value) (by-accepted (withLoss h (diskLoss d)) h a))
+    ∙ put-back (withLoss h (diskLoss d)) (lose-shelf h d (w .shelf) (w .disk)) (held-table value) value (value-length value (w .shelf))
 
 pub rebuild-leaves : (value image counts : List ℕ) (r : ℕ) (value′ image′ counts′ : List ℕ)
-    → HostRebuilt value image counts r value′ image′ counts′ → r ≡ 0 → shelfIn value′ ≡ withLoss (shelfIn value) Nothing
+    → HostRebuilt value image counts r value′ image′ counts′ → r ≡ 0 → shelfIn value′ ≡ withLoss (shelfIn value) noLoss
 rebuild-leaves value image counts r value′ image′ counts′ p e =
     let h = shelfIn value in
     let t = zero-fits p e .1 in
@@ -75,5 +75,5 @@ rebuild-leaves value image counts r value′ image′ counts′ p e =
     let a = zero-accepted (t .answer .verdict) (sym (t .gives .0) ∙ e) in
     let accepted = sym (ap (λ (x : Rebuilding). x .verdict) is) ∙ a in
     let ok = rebuild-accepted h image .0 accepted .stored .shelf in
-    ap shelfIn (t .gives .1 ∙ by-accepted (withShelf value (t .answer .shelf)) value a ∙ ap (withShelf value) (ap (λ (x : Rebuilding). x .shelf) is ∙ by-accepted (withLoss h Nothing) h accepted))
-    ∙ put-back (withLoss h Nothing) (rebuild-shelf h ok) (held-table value) value (value-length value ok)
+    ap shelfIn (t .gives .1 ∙ by-accepted (withShelf value (t .answer .shelf)) value a ∙ ap (withShelf value) (ap (λ (x : Rebuilding). x .shelf) is ∙ by-accepted (withLoss h noLoss) h accepted))
+    ∙ put-back (withLoss h noLoss) (rebuild-shelf h ok) (held-table value) value (value-length value ok)

@@ -2,7 +2,7 @@
 use mathlib.Core.Path.{_≡_, refl, sym, ap, _∙_}
 use mathlib.Core.Bool.{true, _&&_}
 use mathlib.Core.List.{List}
-use Prim.Native.Nat.{ℕ, _*_, _≤_, _<_}
+use Prim.Native.Nat.{ℕ, _+_, _*_, _≤_, _<_}
 use native.Mathlib.Nat.{zero-add, mul-le-mul-left}
 use native.Mathlib.Numerals.{add-one}
 use native.Mathlib.Omega.{arith}
@@ -10,10 +10,12 @@ use borrow.Author.Tests.{ltb-true}
 use lib.ListN.{length, getD, take, drop, length-append}
 use lib.Seq.{drop-at, length-take-le}
 use Rattle.design.specs.declared.Loss.{Loss}
-use Rattle.design.specs.declared.Loss.the-variants.{Nothing, Disk}
+use Rattle.design.specs.declared.Lost.{Lost}
+use Rattle.design.specs.declared.Lost.the-variants.{Nothing, Disk}
 use Rattle.design.specs.declared.Shelf.{Shelf}
 use Rattle.design.specs.Tuples.{holds, shared}
-use Rattle.design.specs.Shelf.{designIn, lossBelow, isShelf}
+use Rattle.design.specs.Loss.{noLoss, diskLoss, lossBelow}
+use Rattle.design.specs.Shelf.{designIn, isShelf}
 use Rattle.design.proofs.Counting.{count-le}
 use Rattle.design.proofs.ShelfTests.{shelf-parts}
 use Rattle.placement.proofs.Bounds.{often-most}
@@ -33,13 +35,19 @@ paired-most h e =
 
 loss-most : (loss : Loss) (v : ℕ) → lossBelow loss v ≡ true → v ≤ 64 → lossNumber loss ≤ 64
 unfolding lossBelow lossNumber
-loss-most Nothing v below l = omega arith
-loss-most (Disk d) v below l = omega (arith, ltb-true d v below)
+loss-most loss v = by (loss .lost) refl
+  where
+    by : (x : Lost) → loss .lost ≡ x → lossBelow loss v ≡ true → v ≤ 64 → lossNumber loss ≤ 64
+    by Nothing p below l = rw (p, lossNumber) (omega arith)
+    by (Disk d) p below l = rw (p, lossNumber) (omega (arith, ltb-true d v (rw (p, lossBelow) at below)))
 
 loss-back : (loss : Loss) → lossOf (lossNumber loss) ≡ loss
-unfolding lossOf lossNumber
-loss-back Nothing = refl
-loss-back (Disk d) = ap lossOf (add-one d)
+unfolding lossOf lossNumber noLoss diskLoss
+loss-back loss = by (loss .lost) refl
+  where
+    by : (x : Lost) → loss .lost ≡ x → lossOf (lossNumber loss) ≡ loss
+    by Nothing p = let n : lossNumber loss ≡ 0 = rw (p, lossNumber) in ap lossOf n ∙ ap (λ (x : Lost). record { lost = x }) (sym p)
+    by (Disk d) p = let n : lossNumber loss ≡ d + 1 = rw (p, lossNumber) in ap lossOf (n ∙ add-one d) ∙ ap (λ (x : Lost). record { lost = x }) (sym p)
 
 module _ (h : Shelf) (ok : isShelf h ≡ true) where
   numbers-fit : Fit (numbersIn h)

@@ -26,7 +26,7 @@ use Rattle.parity.proofs.By.{by-accepted, by-refused}
 use Rattle.parity.proofs.Cases.{cases}
 use Rattle.parity.proofs.Image.{unit-fits}
 use Rattle.parity.proofs.Shown.{place-empty, place-unit, address-empty}
-use Rattle.parity.proofs.Spots.{spot-unit, spot-offset-lt, spot-disk-lt}
+use Rattle.parity.proofs.Spots.{spot-unit, spot-place}
 use Rattle.host.specs.Stored.{refusedStart, secondStart, placeStart, addressStart}
 
 none-is : (l : List ℕ) → length l ≡ 0 → l ≡ []
@@ -119,8 +119,8 @@ module _ (h : Shelf) (image : List ℕ) (a : ℕ) (other : List ℕ) where
             let call : PlaceCall h image (spot .disk) (spot .offset) =
             record {
               stored = address-call .stored;
-              disk = rw placed (spot-disk-lt h (address-call .stored .shelf) a (address-call .address));
-              offset = rw placed (spot-offset-lt h (address-call .stored .shelf) a (address-call .address));
+              disk = rw placed (spot-place h (address-call .stored .shelf) a (address-call .address) .0);
+              offset = rw placed (spot-place h (address-call .stored .shelf) a (address-call .address) .1);
               here = ap (present h) place-is ∙ p;
             } in
             let whole = place-unit h image (spot .disk) (spot .offset) (show-place-accepted h image (spot .disk) (spot .offset) .1 call) .1 in

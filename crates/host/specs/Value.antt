@@ -6,19 +6,19 @@ use Prim.Native.Nat.{ℕ, zero, suc, _+_}
 use lib.Dec.{leb, eqb}
 use lib.ListN.{length, take, drop}
 use Rattle.design.specs.declared.Loss.{Loss}
-use Rattle.design.specs.declared.Loss.the-variants.{Nothing, Disk}
+use Rattle.design.specs.declared.Lost.the-variants.{Nothing, Disk}
 use Rattle.design.specs.declared.Shelf.{Shelf}
+use Rattle.design.specs.Loss.{noLoss, diskLoss}
 use Rattle.design.specs.Sheet.{emptyShelf}
 use Rattle.host.specs.Numbers.{numberAt, numbered}
 
 -- the loss as one number, and back
 unfoldable pub lossNumber : Loss → ℕ
-lossNumber Nothing = 0
-lossNumber (Disk d) = d + 1
+lossNumber loss = elim (loss .lost) [ Nothing ↦ 0 | Disk d ↦ d + 1 ]
 
 unfoldable pub lossOf : ℕ → Loss
-lossOf zero = Nothing
-lossOf (suc d) = Disk d
+lossOf zero = noLoss
+lossOf (suc d) = diskLoss d
 
 unfoldable pub isValue : List ℕ → Bool
 isValue bytes = eqb (length bytes) 2080 && leb (numberAt bytes 7) 256

@@ -6,6 +6,7 @@ ghost use lib.ListN.{length, take, drop};
 ghost use Rattle.host.specs.Value.{lossNumber, lossOf, shelfIn, withShelf};
 use crate::numbers;
 use design::Loss;
+use design::Lost;
 use design::Shelf;
 use design::Table;
 
@@ -17,17 +18,18 @@ fn loss_of(x: usize) -> Loss
     ensures { λ r. ⌜ r ≡ lossOf x ⌝ }
 {
     if x == 0 {
-        return Loss::Nothing;
+        return Loss::none();
     }
-    Loss::Disk((x - 1) as u8)
+    Loss::of((x - 1) as u8)
 }
 
 fn loss_number(loss: Loss) -> usize
     ensures { λ r. ⌜ r ≡ lossNumber loss ⌝ }
 {
-    match loss {
-        Loss::Nothing => 0,
-        Loss::Disk(d) => d as usize + 1,
+    let lost = loss.lost;
+    match lost {
+        Lost::Nothing => 0,
+        Lost::Disk(d) => d as usize + 1,
     }
 }
 

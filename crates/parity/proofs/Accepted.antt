@@ -1,19 +1,18 @@
 -- The rules of each call stand by rising number, so the one given is "the lowest number that applies"; and when each call is
 -- accepted. Assumes nothing.
-use mathlib.Core.Path.{_≡_, refl, sym}
+use mathlib.Core.Path.{_≡_, refl, ap}
 use mathlib.Core.Logic.{_↔_}
-use mathlib.Core.Bool.{true, not, true≢false}
+use mathlib.Core.Bool.{true, false, not}
 use mathlib.Core.List.{List, [], _∷_}
 use Prim.Native.Nat.{ℕ, _+_, _-_, _*_, _<_}
 use native.Mathlib.Omega.{arith}
 use lib.Dec.{ltb, eqb}
 use lib.ListN.{length}
-use borrow.Author.Tests.{lt-ltb, ltb-true, eq-eqb, eqb-true}
-use Rattle.design.specs.declared.Loss.{Loss}
-use Rattle.design.specs.declared.Loss.the-variants.{Nothing, Disk}
+use borrow.Author.Tests.{lt-ltb, ltb-true, eq-eqb, eqb-true, not-true}
 use Rattle.design.specs.declared.Shelf.{Shelf}
 use Rattle.design.specs.declared.Verdict.the-variants.{Accepted}
 use Rattle.design.specs.Refusals.{Rule, firstBroken, number}
+use Rattle.design.specs.Loss.{isWhole}
 use Rattle.design.specs.Shelf.{isShelf, shelfRule}
 use Rattle.design.proofs.Counting.{both, both-of}
 use Rattle.design.proofs.Lowest.{rising}
@@ -21,7 +20,7 @@ use Rattle.placement.specs.Layout.{layoutIn, stripes, stripeOf, jOf}
 use Rattle.placement.proofs.Even.{even-shelf}
 use Rattle.placement.proofs.Stands.{j-lt, stripe-below}
 use Rattle.parity.specs.Stripe.{unitSize, depth, present}
-use Rattle.parity.specs.Calls.{imageRule, addressRule, stripeRule, diskRule, placeRule, bufferRule, wholeRule, lostRule, isWhole, wholeRules, unitRules, stripeRules, loseRules, rebuildRules, placeRules, presentRule}
+use Rattle.parity.specs.Calls.{imageRule, addressRule, stripeRule, diskRule, placeRule, bufferRule, wholeRule, lostRule, wholeRules, unitRules, stripeRules, loseRules, rebuildRules, placeRules, presentRule}
 use Rattle.parity.specs.inner.Shapes.{Held, UnitCall, StripeCall}
 use Rattle.parity.proofs.Cases.{cases}
 
@@ -83,24 +82,6 @@ below-exactly a b = (ltb-true a b, lt-ltb a b)
 exactly-so-long : (n m : ℕ) → (eqb n m ≡ true) ↔ (n ≡ m)
 exactly-so-long n m = (eqb-true n m, eq-eqb n m)
 
--- ---- the lost disk
-
-pub whole-exactly : (loss : Loss) → (isWhole loss ≡ true) ↔ (loss ≡ Nothing)
-whole-exactly Nothing = (λ e. refl, λ e. refl)
-whole-exactly (Disk d) = (λ e. absurd (true≢false (sym e)), λ e. let z : _≡_ {A = ℕ} 0 1 = cc in absurd (omega arith))
-
--- the disk that is lost
-pub record Lost (h : Shelf) : Type 0 where
-  pub disk : ℕ
-  pub loss : h .loss ≡ Disk disk
-
-lost-exactly : (h : Shelf) → (not (isWhole (h .loss)) ≡ true) ↔ Lost h
-lost-exactly h = (λ e. find (h .loss) refl e, λ l. rw (l .loss))
-  where
-    find : (loss : Loss) → h .loss ≡ loss → not (isWhole loss) ≡ true → Lost h
-    find Nothing p e = absurd (true≢false (sym e))
-    find (Disk d) p e = record { disk = d; loss = p }
-
 -- ---- blank and scrub
 
 pub whole-rise : (h : Shelf) (n : ℕ) → rising 0 (wholeRules h n) ≡ true
@@ -109,13 +90,13 @@ whole-rise h n = refl
 
 pub record WholeCall (h : Shelf) (image : List ℕ) : Type 0 where
   pub stored : Held h image
-  pub whole : h .loss ≡ Nothing
+  pub whole : isWhole (h .loss) ≡ true
 
 module _ (h : Shelf) (image : List ℕ) where
   pub whole-accepted : (firstBroken (wholeRules h (length image)) ≡ Accepted) ↔ WholeCall h image
   unfolding wholeRules
   whole-accepted =
-      let at = image-and-one h image (wholeRule h) (whole-exactly (h .loss)) in
+      let at = image-and-one h image (wholeRule h) (λ e. e, λ e. e) in
       (λ e. let p = at .0 e in record { stored = p .0; whole = p .1 }, λ w. at .1 (w .stored, w .whole))
 
 -- ---- rebuild
@@ -126,12 +107,12 @@ rebuild-rise h n = refl
 
 pub record LostCall (h : Shelf) (image : List ℕ) : Type 0 where
   pub stored : Held h image
-  pub lost : Lost h
+  pub lost : isWhole (h .loss) ≡ false
 
 pub rebuild-accepted : (h : Shelf) (image : List ℕ) → (firstBroken (rebuildRules h (length image)) ≡ Accepted) ↔ LostCall h image
 unfolding rebuildRules
 rebuild-accepted h image =
-    let at = image-and-one h image (lostRule h) (lost-exactly h) in
+    let at = image-and-one h image (lostRule h) (not-true _, ap not) in
     (λ e. let p = at .0 e in record { stored = p .0; lost = p .1 }, λ w. at .1 (w .stored, w .lost))
 
 -- ---- lose
@@ -143,16 +124,15 @@ lose-rise h d = refl
 pub record LoseCall (h : Shelf) (d : ℕ) : Type 0 where
   pub shelf : isShelf h ≡ true
   pub disk : d < h .v
-  pub whole : h .loss ≡ Nothing
+  pub whole : isWhole (h .loss) ≡ true
 
 pub lose-accepted : (h : Shelf) (d : ℕ) → (firstBroken (loseRules h d) ≡ Accepted) ↔ LoseCall h d
 unfolding loseRules
 lose-accepted h d =
     let at = rule-kept (shelfRule h) (diskRule h d ∷ wholeRule h ∷ []) in
-    let kept = two-kept (diskRule h d) (wholeRule h) in
-    let lost = whole-exactly (h .loss) in (
-      λ e. let q = kept .0 (at .0 e .1) in record { shelf = at .0 e .0; disk = ltb-true d (h .v) (q .0); whole = lost .0 (q .1) },
-      λ w. at .1 (w .shelf, kept .1 (lt-ltb d (h .v) (w .disk), lost .1 (w .whole))),
+    let kept = two-kept (diskRule h d) (wholeRule h) in (
+      λ e. let q = kept .0 (at .0 e .1) in record { shelf = at .0 e .0; disk = ltb-true d (h .v) (q .0); whole = q .1 },
+      λ w. at .1 (w .shelf, kept .1 (lt-ltb d (h .v) (w .disk), w .whole)),
     )
 
 -- ---- a read, a unit write, show address

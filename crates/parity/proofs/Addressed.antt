@@ -14,7 +14,7 @@ use Rattle.parity.specs.declared.Cost.{Cost}
 use Rattle.parity.specs.declared.Shape.{Shape}
 use Rattle.parity.specs.declared.storing.Standing.{Standing}
 use Rattle.parity.specs.Units.{zeros, unitAt, xorU, xorSum, put}
-use Rattle.parity.specs.Stripe.{unitSize, unitIn, units, presentOn, present, cell, others}
+use Rattle.parity.specs.Stripe.{unitSize, unitIn, units, present, cell, others}
 use Rattle.parity.specs.Calls.{by, costs, fetched, readCost, newParity, unitWritten, writeReads, writeWrites}
 use Rattle.parity.specs.inner.Stores.{Ranked, putUnit}
 use Rattle.parity.specs.inner.Sums.{Placed, numberBy, sumWith}
@@ -52,13 +52,11 @@ module _ {h : Shelf} {image : List ℕ} {a : ℕ} {unit : List ℕ} (w : UnitCal
   unfolding standingIn
   parity-is = ap (λ (x : Standing). x .parity) stands
 
-  unit-told : presentOn (h .loss) (at .disk) ≡ present h (unitIn h s j)
-  unfolding standingIn present
-  unit-told = ap (λ (x : Standing). presentOn (h .loss) (x .disk)) stands
+  unit-told : present h (at .unit) ≡ present h (unitIn h s j)
+  unit-told = ap (present h) unit-is
 
-  parity-told : presentOn (h .loss) (at .«parity_disk») ≡ present h parity
-  unfolding standingIn present
-  parity-told = ap (λ (x : Standing). presentOn (h .loss) (x .«parity_disk»)) stands
+  parity-told : present h (at .parity) ≡ present h parity
+  parity-told = ap (present h) parity-is
 
   -- its units lie within the image
   within : (i : ℕ) → i < h .k → {n : ℕ} → n ≡ unitIn h s i → n * length unit + length unit ≤ length image
@@ -78,12 +76,12 @@ module _ {h : Shelf} {image : List ℕ} {a : ℕ} {unit : List ℕ} (w : UnitCal
 
   -- ---- a read
 
-  pub read-here : {after : List ℕ} → presentOn (h .loss) (at .disk) ≡ true → after ≡ unitAt (length unit) image (at .unit)
+  pub read-here : {after : List ℕ} → present h (at .unit) ≡ true → after ≡ unitAt (length unit) image (at .unit)
       → (1 ≡ readCost h s j) × (after ≡ fetched h image s j)
   unfolding readCost fetched cell
   read-here p loaded = let q = sym unit-told ∙ p in (rw q, rw q (rw (unit-is, w .exact) at loaded))
 
-  pub read-lost : {after : List ℕ} → presentOn (h .loss) (at .disk) ≡ false → after ≡ others h image (at .stripe) (at .index)
+  pub read-lost : {after : List ℕ} → present h (at .unit) ≡ false → after ≡ others h image (at .stripe) (at .index)
       → (h .k - 1 ≡ readCost h s j) × (after ≡ fetched h image s j)
   unfolding readCost fetched standingIn
   read-lost p summed = let q = sym unit-told ∙ p in (rw q, rw q (rw stands at summed))
@@ -99,7 +97,7 @@ module _ {h : Shelf} {image : List ℕ} {a : ℕ} {unit : List ℕ} (w : UnitCal
   Stored after r w =
       (_≡_ {A = Cost} (record { verdict = Accepted; read = r; written = w }) (costs Accepted (writeReads h s j) (writeWrites h s j))) × (after ≡ unitWritten h image s j unit)
 
-  pub write-parity-lost : {after : List ℕ} → presentOn (h .loss) (at .«parity_disk») ≡ false → after ≡ putUnit (length unit) image (at .unit) unit → Stored after 0 1
+  pub write-parity-lost : {after : List ℕ} → present h (at .parity) ≡ false → after ≡ putUnit (length unit) image (at .unit) unit → Stored after 0 1
   unfolding by writeReads writeWrites
   write-parity-lost lost stored =
       let q = sym parity-told ∙ lost in
@@ -107,7 +105,7 @@ module _ {h : Shelf} {image : List ℕ} {a : ℕ} {unit : List ℕ} (w : UnitCal
       beside-absent h (w .stored .shelf) s (h .k - 1) j (call-stripe-lt w) parity-lt data-lt q (λ f. parity-apart (sym f)) in
       (rw (p, q), (rw (unit-is, w .exact) at stored) ∙ write-data h (w .stored .shelf) image (w .stored .size) s j unit (call-stripe-lt w) (call-data-lt w) (w .exact) p q)
 
-  pub write-data-lost : {after : List ℕ} → presentOn (h .loss) (at .disk) ≡ false → after ≡ resealed h image (at .stripe) (at .index) unit → Stored after (h .k - 2) 1
+  pub write-data-lost : {after : List ℕ} → present h (at .unit) ≡ false → after ≡ resealed h image (at .stripe) (at .index) unit → Stored after (h .k - 2) 1
   unfolding by writeReads writeWrites newParity resealed standingIn
   write-data-lost lost stored =
       let ok = w .stored .shelf in
@@ -120,7 +118,7 @@ module _ {h : Shelf} {image : List ℕ} {a : ℕ} {unit : List ℕ} (w : UnitCal
             ∙ write-parity h ok image (w .stored .size) s j unit (call-stripe-lt w) (call-data-lt w) (w .exact) p q,
       )
 
-  pub write-here : {after : List ℕ} → presentOn (h .loss) (at .disk) ≡ true → presentOn (h .loss) (at .«parity_disk») ≡ true
+  pub write-here : {after : List ℕ} → present h (at .unit) ≡ true → present h (at .parity) ≡ true
       → after ≡ putUnit (length unit) (putUnit (length unit) image (at .parity) (xorU (unitAt (length unit) image (at .parity)) (xorU (unitAt (length unit) image (at .unit)) unit))) (at .unit) unit
       → Stored after 2 2
   unfolding by writeReads writeWrites newParity cell

@@ -5,8 +5,8 @@ use mathlib.Core.List.{List}
 use Prim.Native.Nat.{ℕ, zero, suc, _+_, _-_, _*_, _≤_, _<_}
 use native.Mathlib.Omega.{arith}
 use lib.ListN.{length, length-replicate, getD-replicate}
-use Rattle.design.specs.declared.Loss.the-variants.{Nothing}
 use Rattle.design.specs.declared.Shelf.{Shelf}
+use Rattle.design.specs.Loss.{isWhole}
 use Rattle.design.specs.Shelf.{isShelf}
 use Rattle.placement.specs.Layout.{layoutIn, stripes}
 use Rattle.placement.proofs.Even.{even-shelf}
@@ -16,7 +16,8 @@ use Rattle.parity.proofs.Cases.{put-each}
 use Rattle.parity.proofs.Xor.{xorU-zeros, xorSum-ext}
 use Rattle.parity.proofs.Put.{unit-byte, unit-ext}
 use Rattle.parity.proofs.Image.{unit-fits, unit-length}
-use Rattle.parity.proofs.Home.{unit-lt, whole-present}
+use Rattle.parity.proofs.Present.{whole-present}
+use Rattle.parity.proofs.Home.{unit-lt}
 use Rattle.parity.proofs.Rebuilt.{Right}
 use Rattle.parity.proofs.Memory.{dataOf, asked, Keeps, asked-right}
 
@@ -44,7 +45,7 @@ blank-keeps h ok = record {
     asks i =
         put-each (λ i. zeros (unitSize h)) (h .k - 1) _ (λ (x : List ℕ). x ≡ zeros (unitSize h)) i (λ e. zeros-sum (unitSize h) (h .k - 1)) (λ e. refl)
 
-pub whole-right : (h : Shelf) (image : List ℕ) (memory : ℕ → List ℕ) → Keeps h image memory → h .loss ≡ Nothing → (s : ℕ) → s < stripes (layoutIn h) → Right h image s
+pub whole-right : (h : Shelf) (image : List ℕ) (memory : ℕ → List ℕ) → Keeps h image memory → isWhole (h .loss) ≡ true → (s : ℕ) → s < stripes (layoutIn h) → Right h image s
 whole-right h image memory K whole s hs =
     xorSum-ext (unitSize h) (cell h image s) (asked h memory s) (h .k) (λ i hi. K .same s i hs hi (whole-present h whole (unitIn h s i)))
     ∙ asked-right h memory s (K .sized) (omega (arith, even-shelf h (K .stored .shelf) .k-least))

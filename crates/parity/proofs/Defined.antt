@@ -9,8 +9,8 @@ use native.Mathlib.Omega.{arith}
 use lib.Dec.{eqb}
 use lib.ListN.{length}
 use borrow.Author.Tests.{eq-eqb, ne-eqb, not-true}
-use Rattle.design.specs.declared.Loss.the-variants.{Disk}
 use Rattle.design.specs.declared.Shelf.{Shelf}
+use Rattle.design.specs.Loss.{isLost}
 use Rattle.design.specs.Shelf.{isShelf}
 use Rattle.design.proofs.Counting.{both, both-of}
 use Rattle.placement.specs.Layout.{layoutIn, stripes}
@@ -21,7 +21,8 @@ use Rattle.parity.proofs.Cases.{cases, put-ext}
 use Rattle.parity.proofs.Xor.{xorSum-ext}
 use Rattle.parity.proofs.Patch.{patch-on}
 use Rattle.parity.proofs.Home.{unit-lt, stripe-home, index-home, stripeHere-lt, indexHere-lt, unit-home, beside-absent}
-use Rattle.parity.proofs.Meets.{unit-on-disk, lost-exactly, present-is}
+use Rattle.parity.proofs.Present.{present-is}
+use Rattle.parity.proofs.Meets.{unit-on-disk, lost-exactly}
 use Rattle.parity.proofs.Cells.{others-ext}
 use Rattle.parity.proofs.Rebuilt.{restored-sized}
 use Rattle.parity.proofs.Written.{unit-written-sized, stripe-written-sized}
@@ -103,7 +104,7 @@ module _ (h : Shelf) (ok : isShelf h ≡ true) (a b : List ℕ) where
 
   -- ---- rebuild
 
-  pub rebuild-defined : (d : ℕ) → h .loss ≡ Disk d → length a ≡ imageSize h → length b ≡ imageSize h → ((e : ℕ) → Agree h (rebuildSet h d e) a b)
+  pub rebuild-defined : (d : ℕ) → isLost h d ≡ true → length a ≡ imageSize h → length b ≡ imageSize h → ((e : ℕ) → Agree h (rebuildSet h d e) a b)
       → Agree h (λ n. not (present h n)) (rebuiltImage h a) (rebuiltImage h b)
   unfolding rebuiltImage rebuildSet
   rebuild-defined d lost la lb same n hn t =

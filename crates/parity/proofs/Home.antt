@@ -2,15 +2,11 @@
 -- one of them is lost. Assumes nothing.
 use mathlib.Core.Path.{_≡_, sym, ap, ap₂, _∙_}
 use mathlib.Core.Logic.{_≢_}
-use mathlib.Core.Bool.{true, false, true≢false}
+use mathlib.Core.Bool.{true, false}
 use Prim.Native.Nat.{ℕ, _+_, _*_, _%_, _<_}
 use native.Mathlib.Nat.{mod-lt, mul-pos, div-add-mod', div-lt-iff-lt-mul}
 use native.Mathlib.Omega.{arith}
 use lib.Arith.{digits-lt, digits-div, digits-mod}
-use lib.Dec.{eqb}
-use borrow.Author.Tests.{eqb-true}
-use Rattle.design.specs.declared.Loss.{Loss}
-use Rattle.design.specs.declared.Loss.the-variants.{Nothing, Disk}
 use Rattle.design.specs.declared.Shelf.{Shelf}
 use Rattle.design.specs.Shelf.{isShelf}
 use Rattle.placement.specs.Layout.{layoutIn, stripes, diskOf, offsetOf, stripeAt, positionAt}
@@ -18,22 +14,10 @@ use Rattle.placement.proofs.Even.{Even, even-shelf}
 use Rattle.placement.proofs.Row.{disk-lt, offset-lt}
 use Rattle.placement.proofs.Undo.{stripe-back, position-back, position-there, stripe-there, disk-there, offset-there}
 use Rattle.placement.proofs.Spread.{positions-apart}
-use Rattle.parity.specs.Stripe.{depth, units, positionIn, unitIn, diskAt, stripeHere, indexHere, presentOn, present}
+use Rattle.parity.specs.Stripe.{depth, units, positionIn, unitIn, diskAt, stripeHere, indexHere, present}
 use Rattle.parity.proofs.Cases.{cases}
+use Rattle.parity.proofs.Present.{absent-together}
 use Rattle.parity.proofs.Index.{indexOf, position-in-lt, index-position, position-in-inj, index-lt, position-index}
-
--- ---- the lost disk
-
-absent-is : (x d : ℕ) → presentOn (Disk x) d ≡ false → d ≡ x
-absent-is x d a = cases (eqb d x) (eqb-true d x) (λ p. let there : presentOn (Disk x) d ≡ true = simp p in absurd (true≢false (sym there ∙ a)))
-
-absent-disk : (loss : Loss) (d e : ℕ) → presentOn loss d ≡ false → presentOn loss e ≡ false → d ≡ e
-absent-disk Nothing d e a b = absurd (true≢false a)
-absent-disk (Disk x) d e a b = absent-is x d a ∙ sym (absent-is x e b)
-
-pub whole-present : (h : Shelf) → h .loss ≡ Nothing → (n : ℕ) → present h n ≡ true
-unfolding present
-whole-present h e n = rw e
 
 -- ---- units of a stripe and units of the image
 
@@ -116,8 +100,7 @@ module _ (h : Shelf) (ok : isShelf h ≡ true) where
 
     -- at most one is lost
     pub one-absent : present h (unitIn h s i) ≡ false → present h (unitIn h s j) ≡ false → i ≡ j
-    unfolding present
-    one-absent a b = disks-apart (absent-disk (h .loss) (diskAt h (unitIn h s i)) (diskAt h (unitIn h s j)) a b)
+    one-absent a b = disks-apart (absent-together h (unitIn h s i) (unitIn h s j) a b)
 
     pub beside-absent : present h (unitIn h s i) ≡ false → j ≢ i → present h (unitIn h s j) ≡ true
     beside-absent a ne = cases (present h (unitIn h s j)) (λ e. e) (λ e. absurd (ne (sym (one-absent a e))))

@@ -8,6 +8,7 @@ pub mod Image
 pub mod Patch
 pub mod Index
 mod FirstTwo
+pub mod Present
 pub mod Home
 pub mod Ranks
 pub mod UnitCounts

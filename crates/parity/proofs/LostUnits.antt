@@ -1,7 +1,7 @@
 -- The units of the lost disk, offset after offset: the stripe and the unit of it that the code finds at an offset, and that a rebuild
 -- may restore them in this order. Assumes nothing.
-use mathlib.Core.Path.{_≡_, refl, sym, ap, ap₂, _∙_}
-use mathlib.Core.Bool.{Bool, true, false, not, cond, true≢false}
+use mathlib.Core.Path.{_≡_, sym, ap, ap₂, _∙_}
+use mathlib.Core.Bool.{Bool, true, false, not, cond}
 use mathlib.Core.List.{List}
 use Prim.Native.Nat.{ℕ, _+_, _-_, _*_, _/_, _%_, _≤_, _<_}
 use native.Mathlib.Nat.{mod-lt, div-add-mod'}
@@ -10,10 +10,9 @@ use lib.Arith.{digits-lt, digits-div, digits-mod}
 use lib.Dec.{ltb, eqb}
 use lib.ListN.{length, getD}
 use borrow.Author.Tests.{lt-ltb, le-ltb, eq-eqb, eqb-true, not-false}
-use Rattle.design.specs.declared.Loss.{Loss}
-use Rattle.design.specs.declared.Loss.the-variants.{Nothing, Disk}
 use Rattle.design.specs.declared.Shelf.{Shelf}
 use Rattle.design.specs.Count.{count, nth}
+use Rattle.design.specs.Loss.{isLost}
 use Rattle.design.specs.Shelf.{isShelf}
 use Rattle.design.proofs.Counting.{alike, count-le}
 use Rattle.placement.specs.Entries.{isDisk}
@@ -24,14 +23,15 @@ use Rattle.placement.proofs.Undo.{row-there}
 use Rattle.placement.proofs.Flat.{some-left, stripe-found, position-found}
 use Rattle.parity.specs.declared.Shape.{Shape}
 use Rattle.parity.specs.Units.{zeros, put}
-use Rattle.parity.specs.Stripe.{unitSize, depth, units, imageSize, unitIn, diskAt, stripeHere, indexHere, presentOn, present, others}
+use Rattle.parity.specs.Stripe.{unitSize, depth, units, imageSize, unitIn, diskAt, stripeHere, indexHere, present, others}
 use Rattle.parity.specs.inner.Stores.{Ranked, putUnit}
 use Rattle.parity.specs.inner.Sums.{Placed, numberBy, sumWith}
 use Rattle.parity.specs.inner.Shapes.{shapeIn}
 use Rattle.parity.specs.Calls.{rebuiltImage}
 use Rattle.parity.proofs.Cases.{cases, below-next}
 use Rattle.parity.proofs.Ready.{entries-fit}
-use Rattle.parity.proofs.Home.{whole-present, depth-pos, stripeHere-lt, indexHere-lt, unit-home}
+use Rattle.parity.proofs.Present.{present-is}
+use Rattle.parity.proofs.Home.{depth-pos, stripeHere-lt, indexHere-lt, unit-home}
 use Rattle.parity.proofs.Places.{number-unit, shelf-placed, sum-others}
 use Rattle.parity.proofs.Meets.{lost-below}
 use Rattle.parity.proofs.Restores.{Restored, restored-none, restored-test, restored-put, restored-all}
@@ -63,7 +63,7 @@ indexFor h entries o = indexAt (h .k) (h .k - 1 - o / h .r % h .k) (getD entries
 -- what it has before the first offset: the ranks of the table's entries, the entries of the lost disk and the shelf's numbers
 pub record Prepared (h : Shelf) (lost : ℕ) (ranks entries : List ℕ) (shape : Shape) : Type 0 where
   pub ok : isShelf h ≡ true
-  pub gone : h .loss ≡ Disk lost
+  pub gone : isLost h lost ≡ true
   pub ranked : Ranked (h .table) (h .b * h .k) ranks
   pub listed : Listed h lost entries
   pub shape-is : shape ≡ shapeIn h
@@ -101,14 +101,12 @@ module _ (h : Shelf) {lost : ℕ} {ranks entries : List ℕ} {shape : Shape} (P 
     unit-offset = digits-mod lost ho
 
     unit-gone : present h (unitOn h lost o) ≡ false
-    unfolding present
-    unit-gone = ap₂ presentOn (P .gone) unit-disk ∙ ap not (eq-eqb lost lost refl)
+    unit-gone = present-is h lost (P .gone) (unitOn h lost o) ∙ ap not (eq-eqb _ lost unit-disk)
 
     -- of the lost units it is the one at this offset
     same-unit : (n : ℕ) → present h n ≡ false → eqb n (unitOn h lost o) ≡ eqb (n % depth h) o
-    unfolding present
     same-unit n e =
-        let on-lost : n / depth h ≡ lost = eqb-true (n / depth h) lost (not-false _ (ap (λ (loss : Loss). presentOn loss (n / depth h)) (sym (P .gone)) ∙ e)) in
+        let on-lost : n / depth h ≡ lost = eqb-true (n / depth h) lost (not-false _ (sym (present-is h lost (P .gone) n) ∙ e)) in
         alike _ _
         (λ t. eq-eqb _ o (ap (λ (m : ℕ). m % depth h) (eqb-true n (unitOn h lost o) t) ∙ unit-offset))
         (λ t. eq-eqb n _ (sym (div-add-mod' n (depth h)) ∙ ap₂ (unitOn h) on-lost (eqb-true (n % depth h) o t)))
@@ -184,8 +182,3 @@ module _ (h : Shelf) (ok : isShelf h ≡ true) (image : List ℕ) (len : length 
   pub restored-disk : {o : ℕ} {now : List ℕ} → Restored h image (upTo h o) now → depth h ≤ o → now ≡ rebuiltImage h image
   restored-disk {o} {now} R all =
       restored-all h ok image len (upTo h o) now (λ n hn g. lt-ltb (n % depth h) o (omega (arith, mod-lt n (depth-pos h ok)))) R
-
-  -- no disk is lost: none is restored
-  pub none-restored : h .loss ≡ Nothing → image ≡ rebuiltImage h image
-  none-restored whole =
-      restored-all h ok image len (λ n. false) image (λ n hn g. absurd (true≢false (sym (whole-present h whole n) ∙ g))) (restored-none h ok image len)

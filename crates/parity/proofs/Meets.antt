@@ -4,22 +4,20 @@ use mathlib.Core.Logic.{_↔_}
 use mathlib.Core.Bool.{true, false, not}
 use Prim.Native.Nat.{ℕ, _<_}
 use lib.Dec.{eqb}
-use borrow.Author.Tests.{eq-eqb, eqb-true, not-false, ltb-true}
-use Rattle.design.specs.declared.Loss.the-variants.{Disk}
+use borrow.Author.Tests.{eq-eqb, eqb-true, not-false}
 use Rattle.design.specs.declared.Shelf.{Shelf}
 use Rattle.design.specs.Count.{nth}
-use Rattle.design.specs.Shelf.{lossBelow, isShelf}
+use Rattle.design.specs.Loss.{isLost}
+use Rattle.design.specs.Shelf.{isShelf}
+use Rattle.design.proofs.Losses.{lost-lt}
 use Rattle.design.proofs.ShelfTests.{shelf-parts}
 use Rattle.placement.specs.Layout.{layoutIn, stripes, tupleOf, diskOf}
 use Rattle.placement.proofs.Held.{holds-disk, held-at}
 use Rattle.parity.specs.Stripe.{unitIn, diskAt, present, positionIn}
 use Rattle.parity.specs.Calls.{onDisk}
 use Rattle.parity.proofs.Index.{indexOf, index-lt, position-index, position-in-lt}
+use Rattle.parity.proofs.Present.{present-is}
 use Rattle.parity.proofs.Home.{disk-home}
-
-pub present-is : (h : Shelf) (d : ℕ) → h .loss ≡ Disk d → (n : ℕ) → present h n ≡ not (eqb (diskAt h n) d)
-unfolding present
-present-is h d e n = rw e
 
 -- unit i of stripe s is on disk d
 pub record UnitOn (h : Shelf) (s d i : ℕ) : Type 0 where
@@ -27,9 +25,8 @@ pub record UnitOn (h : Shelf) (s d i : ℕ) : Type 0 where
   pub disk : diskAt h (unitIn h s i) ≡ d
 
 module _ (h : Shelf) (ok : isShelf h ≡ true) where
-  pub lost-below : (d : ℕ) → h .loss ≡ Disk d → d < h .v
-  unfolding lossBelow
-  lost-below d e = let l = shelf-parts h ok .loss in ltb-true d (h .v) (rw e at l)
+  pub lost-below : (d : ℕ) → isLost h d ≡ true → d < h .v
+  lost-below d e = lost-lt (h .loss) (h .v) d (shelf-parts h ok .loss) e
 
   module _ (s : ℕ) (hs : s < stripes (layoutIn h)) where
     pub unit-on-disk : (i : ℕ) → i < h .k → onDisk h s (diskAt h (unitIn h s i)) ≡ true
@@ -52,7 +49,7 @@ module _ (h : Shelf) (ok : isShelf h ≡ true) where
         )
 
     -- a unit is lost exactly where the stripe meets the lost disk in it
-    pub lost-exactly : (d i : ℕ) → h .loss ≡ Disk d → (present h (unitIn h s i) ≡ false) ↔ (diskAt h (unitIn h s i) ≡ d)
+    pub lost-exactly : (d i : ℕ) → isLost h d ≡ true → (present h (unitIn h s i) ≡ false) ↔ (diskAt h (unitIn h s i) ≡ d)
     lost-exactly d i e = (
       λ a. eqb-true _ d (not-false _ (sym (present-is h d e (unitIn h s i)) ∙ a)),
       λ a. present-is h d e (unitIn h s i) ∙ ap not (eq-eqb _ d a),

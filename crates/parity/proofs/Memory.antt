@@ -8,8 +8,8 @@ use Prim.Native.Nat.{ℕ, suc, _+_, _-_, _*_, _<_}
 use native.Mathlib.Nat.{div-add-mod'}
 use native.Mathlib.Omega.{arith}
 use lib.ListN.{length}
-use Rattle.design.specs.declared.Loss.the-variants.{Nothing}
 use Rattle.design.specs.declared.Shelf.{Shelf}
+use Rattle.design.specs.Loss.{isWhole}
 use Rattle.design.specs.Shelf.{isShelf}
 use Rattle.placement.specs.Layout.{layoutIn, stripes, addresses, stripeOf, jOf}
 use Rattle.placement.proofs.Even.{even-shelf}
@@ -21,7 +21,8 @@ use Rattle.parity.specs.inner.Shapes.{Held}
 use Rattle.parity.proofs.Cases.{cases, put-same, put-other, put-each, put-ext}
 use Rattle.parity.proofs.Xor.{xorU-self, xorSum-ext, xorSum-length, recover}
 use Rattle.parity.proofs.Patch.{same-image}
-use Rattle.parity.proofs.Home.{whole-present, stripeHere-lt, indexHere-lt, beside-absent}
+use Rattle.parity.proofs.Present.{whole-present}
+use Rattle.parity.proofs.Home.{stripeHere-lt, indexHere-lt, beside-absent}
 use Rattle.parity.proofs.Cells.{cell-home}
 
 -- the data of stripe s
@@ -105,7 +106,7 @@ module _ (h : Shelf) (image : List ℕ) (memory : ℕ → List ℕ) (K : Keeps h
       ∙ ap memory (div-add-mod' a (h .k - 1))
 
 -- with no disk lost, the memory determines the image
-pub memory-determines : (h : Shelf) (memory : ℕ → List ℕ) (a b : List ℕ) → h .loss ≡ Nothing → Keeps h a memory → Keeps h b memory → a ≡ b
+pub memory-determines : (h : Shelf) (memory : ℕ → List ℕ) (a b : List ℕ) → isWhole (h .loss) ≡ true → Keeps h a memory → Keeps h b memory → a ≡ b
 memory-determines h memory a b whole A B = same-image h a b (A .stored .size) (B .stored .size) each
   where
     each : (n : ℕ) → n < units h → unitAt (unitSize h) a n ≡ unitAt (unitSize h) b n

@@ -13,6 +13,7 @@ use Rattle.design.specs.declared.Shelf.{Shelf}
 use Rattle.design.specs.declared.Verdict.{Verdict}
 use Rattle.design.specs.declared.Verdict.the-variants.{Accepted, Refused}
 use Rattle.design.specs.Refusals.{number, firstBroken}
+use Rattle.design.specs.Loss.{isWhole}
 use Rattle.design.specs.Shelf.{isShelf}
 use Rattle.design.proofs.Lowest.{verdictNumber, some-number}
 use Rattle.design.proofs.Numerals.{Case, case, firstOf, rules-give}
@@ -20,7 +21,7 @@ use Rattle.placement.specs.Layout.{layoutIn, stripes, addresses}
 use Rattle.parity.specs.declared.Cost.{Cost}
 use Rattle.parity.specs.declared.Rebuilding.{Rebuilding}
 use Rattle.parity.specs.Stripe.{unitSize, depth, imageSize, present}
-use Rattle.parity.specs.Calls.{isWhole, wholeRules, unitRules, stripeRules, loseRules, rebuildRules, placeRules, Blanked, ReadOut, Wrote, WroteStripe, lost, Rebuilt, scrubbed, placeShown, addressShown}
+use Rattle.parity.specs.Calls.{wholeRules, unitRules, stripeRules, loseRules, rebuildRules, placeRules, Blanked, ReadOut, Wrote, WroteStripe, lost, Rebuilt, scrubbed, placeShown, addressShown}
 use Rattle.parity.proofs.Shown.{place-empty, address-empty}
 
 -- ---- the cases of calls that ask alike

@@ -1,18 +1,16 @@
 -- What a call that goes through stripes knows once it has ranked the table and taken the shape of the shelf. Assumes nothing.
-use mathlib.Core.Path.{_≡_, ap, ap₂, _∙_}
+use mathlib.Core.Path.{_≡_, ap, _∙_}
 use mathlib.Core.List.{List}
-use Prim.Native.Nat.{ℕ, _*_, _/_, _≤_, _<_}
+use Prim.Native.Nat.{ℕ, _*_, _≤_, _<_}
 use lib.ListN.{length}
 use Rattle.design.specs.declared.Shelf.{Shelf}
 use Rattle.placement.specs.Layout.{layoutIn, stripes}
 use Rattle.parity.specs.declared.Shape.{Shape}
-use Rattle.parity.specs.Stripe.{unitIn, presentOn, present}
+use Rattle.parity.specs.Stripe.{unitIn, present}
 use Rattle.parity.specs.inner.Stores.{Ranked, Reckoned}
 use Rattle.parity.specs.inner.Sums.{Placed, numberBy}
 use Rattle.parity.specs.inner.Shapes.{Held, shapeIn}
 use Rattle.parity.proofs.Sized.{unit-size-most}
-use Rattle.parity.proofs.Ready.{present-disk}
-use Rattle.parity.proofs.Home.{depth-pos}
 use Rattle.parity.proofs.Places.{number-unit, shelf-placed}
 
 pub record Prepared (h : Shelf) (image ranks : List ℕ) (shape : Shape) : Type 0 where
@@ -21,9 +19,6 @@ pub record Prepared (h : Shelf) (image ranks : List ℕ) (shape : Shape) : Type 
   pub shaped : shape ≡ shapeIn h
 
 module _ {h : Shelf} {image ranks : List ℕ} {shape : Shape} (p : Prepared h image ranks shape) where
-  pub shape-deep : 0 < shape .depth
-  shape-deep = rw (p .shaped) (depth-pos h (p .held .shelf))
-
   pub shape-small : shape .size ≤ 4096
   shape-small = rw (p .shaped) (unit-size-most h (p .held .shelf))
 
@@ -35,9 +30,8 @@ module _ {h : Shelf} {image ranks : List ℕ} {shape : Shape} (p : Prepared h im
     unit-numbered {i} hi e =
         e ∙ ap (λ (x : Shape). numberBy (h .table) ranks x s i) (p .shaped) ∙ number-unit h (p .held .shelf) ranks (p .ranked) s hs i hi
 
-    pub unit-there : {i n : ℕ} → i < h .k → n ≡ numberBy (h .table) ranks shape s i → presentOn (h .loss) (n / shape .depth) ≡ present h (unitIn h s i)
-    unit-there {i} hi e =
-        ap₂ (λ (x : Shape) (m : ℕ). presentOn (h .loss) (m / x .depth)) (p .shaped) (unit-numbered hi e) ∙ present-disk h (unitIn h s i)
+    pub unit-there : {i n : ℕ} → i < h .k → n ≡ numberBy (h .table) ranks shape s i → present h n ≡ present h (unitIn h s i)
+    unit-there hi e = ap (present h) (unit-numbered hi e)
 
     -- what is asked of a call for the number of unit i
     pub number-asks : {i : ℕ} → i < h .k

@@ -5,16 +5,16 @@ use mathlib.Core.List.{List}
 use Prim.Native.Nat.{ℕ, _-_}
 use native.Mathlib.Nat.{div-add-mod'}
 use lib.ListN.{length}
-use Rattle.design.specs.declared.Loss.the-variants.{Disk}
 use Rattle.design.specs.declared.Shelf.{Shelf}
 use Rattle.design.specs.declared.Verdict.the-variants.{Accepted}
 use Rattle.placement.specs.Layout.{layoutIn, stripeOf, jOf}
+use Rattle.design.specs.Loss.{diskLoss, withLoss}
 use Rattle.design.specs.Refusals.{firstBroken}
 use Rattle.parity.specs.declared.Cost.{Cost}
 use Rattle.parity.specs.declared.Rebuilding.{Rebuilding}
 use Rattle.parity.specs.Units.{zeros, put}
 use Rattle.parity.specs.Stripe.{unitSize}
-use Rattle.parity.specs.Calls.{withLoss, fetched, readCost, wholeRules, Blanked, ReadOut, Wrote, WroteStripe, lost, Rebuilt, scrubbed}
+use Rattle.parity.specs.Calls.{fetched, readCost, wholeRules, Blanked, ReadOut, Wrote, WroteStripe, lost, Rebuilt, scrubbed}
 use Rattle.parity.proofs.By.{by-accepted, cost-accepted}
 use Rattle.parity.proofs.Accepted.{whole-accepted, unit-accepted, lose-accepted, call-stripe-lt, call-data-lt}
 use Rattle.parity.proofs.PromisedWrite.{write-leaves, write-call}
@@ -56,7 +56,7 @@ module _ (h : Shelf) (image : List ℕ) where
     unfolding lost
     lose-remembers d e =
         let w = lose-accepted h d .0 e in
-        rw (by-accepted (withLoss h (Disk d)) h e) (lose-keeps h image memory K d (w .whole) (w .disk))
+        rw (by-accepted (withLoss h (diskLoss d)) h e) (lose-keeps h image memory K d (w .whole) (w .disk))
 
     pub rebuild-remembers : (answer : Rebuilding) (after : List ℕ) → Rebuilt h image answer after → answer .verdict ≡ Accepted → Keeps (answer .shelf) after memory
     rebuild-remembers answer after P e =

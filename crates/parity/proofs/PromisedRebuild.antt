@@ -8,22 +8,20 @@ use Prim.Native.Nat.{ℕ, _*_, _<_}
 use native.Mathlib.Nat.{zero-add}
 use lib.Dec.{ltb, eqb}
 use lib.ListN.{length, getD}
-use Rattle.design.specs.declared.Loss.{Loss}
-use Rattle.design.specs.declared.Loss.the-variants.{Nothing, Disk}
 use Rattle.design.specs.declared.Shelf.{Shelf}
 use Rattle.design.specs.declared.Verdict.{Verdict}
 use Rattle.design.specs.declared.Verdict.the-variants.{Accepted}
 use Rattle.design.specs.Count.{count, listFrom}
 use Rattle.design.proofs.Counting.{length-listFrom, getD-listFrom}
 use Rattle.placement.specs.Layout.{layoutIn, stripes}
+use Rattle.design.specs.Loss.{noLoss, isLost, withLoss}
 use Rattle.design.specs.Refusals.{firstBroken}
 use Rattle.parity.specs.declared.Rebuilding.{Rebuilding}
 use Rattle.parity.specs.Units.{zeros}
 use Rattle.parity.specs.Stripe.{units, present}
-use Rattle.parity.specs.Calls.{withLoss, rebuildRules, rebuiltImage, onDisk, readFrom, rebuilding, Rebuilt}
+use Rattle.parity.specs.Calls.{rebuildRules, rebuiltImage, onDisk, readFrom, rebuilding, Rebuilt}
 use Rattle.parity.proofs.By.{by-accepted, same-verdict}
 use Rattle.parity.proofs.Accepted.{LostCall, rebuild-accepted}
-use Rattle.parity.proofs.Meets.{lost-below}
 use Rattle.parity.proofs.Rebuilt.{Right, met-right}
 use Rattle.parity.proofs.Counts.{read-from-is}
 use Rattle.parity.proofs.Sets.{rebuildSet, rebuild-size}
@@ -38,14 +36,14 @@ module _ (h : Shelf) where
     w : LostCall h image
     w = rebuild-accepted h image .0 v
 
-    pub rebuild-shelf-is : answer .shelf ≡ withLoss h Nothing
-    rebuild-shelf-is = ap (λ (r : Rebuilding). r .shelf) (P .answers) ∙ by-accepted (withLoss h Nothing) h v
+    pub rebuild-shelf-is : answer .shelf ≡ withLoss h noLoss
+    rebuild-shelf-is = ap (λ (r : Rebuilding). r .shelf) (P .answers) ∙ by-accepted (withLoss h noLoss) h v
 
-    counts-are : answer .counts ≡ listFrom 0 64 (readFrom h (h .loss))
-    counts-are = ap (λ (r : Rebuilding). r .counts) (P .answers) ∙ by-accepted (listFrom 0 64 (readFrom h (h .loss))) (zeros 64) v
+    counts-are : answer .counts ≡ listFrom 0 64 (readFrom h)
+    counts-are = ap (λ (r : Rebuilding). r .counts) (P .answers) ∙ by-accepted (listFrom 0 64 (readFrom h)) (zeros 64) v
 
     pub rebuild-counts-length : length (answer .counts) ≡ 64
-    rebuild-counts-length = ap length counts-are ∙ length-listFrom 0 64 (readFrom h (h .loss))
+    rebuild-counts-length = ap length counts-are ∙ length-listFrom 0 64 (readFrom h)
 
     pub rebuild-leaves : after ≡ rebuiltImage h image
     rebuild-leaves = P .leaves ∙ by-accepted (rebuiltImage h image) image v
@@ -53,27 +51,23 @@ module _ (h : Shelf) where
     pub rebuild-keeps : Kept h (λ n. not (present h n)) image after
     rebuild-keeps = rw rebuild-leaves (rebuild-kept h (w .stored .shelf) image (w .stored .size))
 
-    module _ (d : ℕ) (lost : h .loss ≡ Disk d) where
-      count-at : (x : ℕ) → x < 64 → getD (answer .counts) x 0 ≡ readFrom h (Disk d) x
-      count-at x l =
-          ap (λ (l : List ℕ). getD l x 0) counts-are
-          ∙ getD-listFrom 0 64 (readFrom h (h .loss)) x l
-          ∙ ap (readFrom h (h .loss)) (zero-add x)
-          ∙ ap (λ (l : Loss). readFrom h l x) lost
+    count-at : (x : ℕ) → x < 64 → getD (answer .counts) x 0 ≡ readFrom h x
+    count-at x l = ap (λ (l : List ℕ). getD l x 0) counts-are ∙ getD-listFrom 0 64 (readFrom h) x l ∙ ap (readFrom h) (zero-add x)
 
+    module _ (d : ℕ) (lost : isLost h d ≡ true) where
       -- the units taken from disk x
       pub rebuild-counts : (x : ℕ) → x < 64 → getD (answer .counts) x 0 ≡ count (rebuildSet h d x) (units h)
       rebuild-counts x l =
-          count-at x l ∙ sym (rebuild-size h (w .stored .shelf) d x (lost-below h (w .stored .shelf) d lost))
+          count-at x l ∙ sym (rebuild-size h (w .stored .shelf) d x lost)
 
       pub rebuild-counts-are : (x : ℕ) → x < 64 → getD (answer .counts) x 0 ≡ cond (ltb x (h .v) && not (eqb x d)) (h .T * h .k * h .lambda) 0
-      rebuild-counts-are x l = count-at x l ∙ read-from-is h (w .stored .shelf) d (lost-below h (w .stored .shelf) d lost) x
+      rebuild-counts-are x l = count-at x l ∙ read-from-is h (w .stored .shelf) d lost x
 
       pub rebuild-right : (s : ℕ) → s < stripes (layoutIn h) → onDisk h s d ≡ true → Right h after s
       rebuild-right s hs m = rw rebuild-leaves (met-right h (w .stored .shelf) image (w .stored .size) d s lost hs m)
 
   pub rebuild-same : (x y : List ℕ) (answer answer′ : Rebuilding) (after after′ : List ℕ) → Rebuilt h x answer after → Rebuilt h y answer′ after′
-      → length x ≡ length y → (d : ℕ) → h .loss ≡ Disk d → ((e : ℕ) → Agree h (rebuildSet h d e) x y)
+      → length x ≡ length y → (d : ℕ) → isLost h d ≡ true → ((e : ℕ) → Agree h (rebuildSet h d e) x y)
       → (answer ≡ answer′) × (answer .verdict ≡ Accepted → Agree h (λ n. not (present h n)) after after′)
   unfolding rebuildRules
   rebuild-same x y answer answer′ after after′ P Q len d lost same =

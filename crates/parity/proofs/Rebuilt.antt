@@ -7,8 +7,8 @@ use Prim.Native.Nat.{ℕ, _<_}
 use lib.Dec.{eqb}
 use lib.ListN.{length}
 use borrow.Author.Tests.{eqb-true, eqb-false}
-use Rattle.design.specs.declared.Loss.the-variants.{Disk}
 use Rattle.design.specs.declared.Shelf.{Shelf}
+use Rattle.design.specs.Loss.{isLost}
 use Rattle.design.specs.Shelf.{isShelf}
 use Rattle.placement.specs.Layout.{layoutIn, stripes}
 use Rattle.parity.specs.Units.{zeros, unitAt, xorSum, put}
@@ -78,7 +78,7 @@ module _ (h : Shelf) (ok : isShelf h ≡ true) (image : List ℕ) (len : length 
           ∙ recover (unitSize h) (cell h before s) i (h .k) hi (cell-length h ok before size s i hs hi) right
 
   -- each stripe that met the lost disk is right
-  pub met-right : (d s : ℕ) → h .loss ≡ Disk d → s < stripes (layoutIn h) → onDisk h s d ≡ true → Right h (rebuiltImage h image) s
+  pub met-right : (d s : ℕ) → isLost h d ≡ true → s < stripes (layoutIn h) → onDisk h s d ≡ true → Right h (rebuiltImage h image) s
   met-right d s e hs m =
       let u = on-disk-unit h ok s hs d m in
       rebuilt-right s (u .0) hs (u .1 .below) (lost-exactly h ok s hs d (u .0) e .1 (u .1 .disk))

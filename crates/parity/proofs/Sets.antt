@@ -5,10 +5,10 @@ use mathlib.Core.Bool.{Bool, true, false, not, cond, _&&_, _||_, and-true, and-f
 use Prim.Native.Nat.{ℕ, _+_, _-_, _%_, _≤_, _<_}
 use native.Mathlib.Omega.{arith}
 use lib.Dec.{ltb, eqb}
-use borrow.Author.Tests.{ltb-true, ltb-false, eq-eqb, ne-eqb, eqb-true}
-use Rattle.design.specs.declared.Loss.the-variants.{Disk}
+use borrow.Author.Tests.{ltb-true, ltb-false, eq-eqb, ne-eqb, eqb-true, eqb-false}
 use Rattle.design.specs.declared.Shelf.{Shelf}
 use Rattle.design.specs.Count.{count}
+use Rattle.design.specs.Loss.{isLost}
 use Rattle.design.specs.Shelf.{isShelf}
 use Rattle.design.proofs.Counting.{count-ext, count-none}
 use Rattle.placement.specs.Layout.{layoutIn, stripes, stripeAt}
@@ -20,7 +20,7 @@ use Rattle.parity.proofs.Cases.{cases}
 use Rattle.parity.proofs.Counting.{count-one, count-pair, count-rest}
 use Rattle.parity.proofs.Home.{index-home, disk-below, one-absent}
 use Rattle.parity.proofs.UnitCounts.{stripe-count, index-count, disk-count}
-use Rattle.parity.proofs.Counts.{read-from-outside}
+use Rattle.parity.proofs.Counts.{shared-stripes, read-from-lost, read-from-outside}
 
 -- ---- the units
 
@@ -112,7 +112,7 @@ module _ (h : Shelf) (ok : isShelf h ≡ true) where
     stripe-size = stripe-count h ok (present h) s hs
 
   -- what a rebuild of disk d takes from disk e
-  module _ (d e : ℕ) (hd : d < h .v) where
+  module _ (d e : ℕ) (lost : isLost h d ≡ true) where
     -- the stripe of offset o of disk e has disk d
     abbrev shares : ℕ → Bool
     shares o = onDisk h (stripeAt (layoutIn h) e o) d
@@ -125,21 +125,22 @@ module _ (h : Shelf) (ok : isShelf h ≡ true) where
     unfolding rebuildSet
     none-there l n hn = let ne : diskAt h n ≢ e = omega (arith, disk-below h ok n hn) in rw (ne-eqb (diskAt h n) e ne)
 
-    inside : e < h .v → eqb e d ≡ false → count (rebuildSet h d e) (units h) ≡ readFrom h (Disk d) e
-    unfolding readFrom
+    inside : e < h .v → eqb e d ≡ false → count (rebuildSet h d e) (units h) ≡ readFrom h e
     inside he t =
         count-ext _ _ (units h) (λ n l. by-offset t n)
         ∙ disk-count h ok shares e he
         ∙ reads-shared (layoutIn h) (even-shelf h ok) e d he
         ∙ count-ext _ _ (stripes (layoutIn h)) (λ s l. and-comm (onDisk h s e) (onDisk h s d))
-        ∙ rw t
+        ∙ sym (shared-stripes h ok d lost e (eqb-false e d t))
 
-    own : eqb e d ≡ true → count (rebuildSet h d e) (units h) ≡ readFrom h (Disk d) e
-    unfolding rebuildSet readFrom
-    own t = count-none _ (units h) (λ n l. rw (t, and-false (eqb (diskAt h n) e))) ∙ rw t
+    own : eqb e d ≡ true → count (rebuildSet h d e) (units h) ≡ readFrom h e
+    unfolding rebuildSet
+    own t =
+        count-none _ (units h) (λ n l. rw (t, and-false (eqb (diskAt h n) e)))
+        ∙ sym (ap (readFrom h) (eqb-true e d t) ∙ read-from-lost h ok d lost)
 
-    pub rebuild-size : count (rebuildSet h d e) (units h) ≡ readFrom h (Disk d) e
+    pub rebuild-size : count (rebuildSet h d e) (units h) ≡ readFrom h e
     rebuild-size =
         cases (eqb e d) own (λ t. cases (ltb e (h .v))
         (λ l. inside (ltb-true e (h .v) l) t)
-        (λ l. let out : h .v ≤ e = ltb-false e (h .v) l in count-none _ (units h) (none-there out) ∙ sym (read-from-outside h ok d hd e out)))
+        (λ l. let out : h .v ≤ e = ltb-false e (h .v) l in count-none _ (units h) (none-there out) ∙ sym (read-from-outside h ok d lost e out)))

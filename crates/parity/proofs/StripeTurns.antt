@@ -4,7 +4,7 @@ use mathlib.Core.Path.{_≡_, refl, sym, _∙_}
 use mathlib.Core.Logic.{_≢_}
 use mathlib.Core.Bool.{true, false}
 use mathlib.Core.List.{List}
-use Prim.Native.Nat.{ℕ, _+_, _-_, _*_, _/_, _≤_, _<_}
+use Prim.Native.Nat.{ℕ, _+_, _-_, _*_, _≤_, _<_}
 use native.Mathlib.Nat.{mul-le-mul-right}
 use native.Mathlib.Numerals.{add-one}
 use native.Mathlib.Omega.{arith}
@@ -17,7 +17,7 @@ use Rattle.design.proofs.ShelfTests.{shelf-parts}
 use Rattle.placement.specs.Layout.{layoutIn, stripes}
 use Rattle.parity.specs.declared.Shape.{Shape}
 use Rattle.parity.specs.Units.{unitAt, xorSum}
-use Rattle.parity.specs.Stripe.{unitSize, unitIn, presentOn, present}
+use Rattle.parity.specs.Stripe.{unitSize, unitIn, present}
 use Rattle.parity.specs.Calls.{withParity, stripeWritten, stripeWrites}
 use Rattle.parity.specs.inner.Stores.{putUnit}
 use Rattle.parity.specs.inner.Sums.{numberBy}
@@ -86,7 +86,7 @@ module _ {h : Shelf} {image : List ℕ} {s : ℕ} {buffer ranks : List ℕ} {sha
       pub begun-fits : n * shape .size + shape .size ≤ length now
       begun-fits = rw begun-size (place-fits (units-placed (t .ready) (t .below)) (rw (t .ready .shaped) hi) e)
 
-      pub begun-put : {after x : List ℕ} → presentOn (h .loss) (n / shape .depth) ≡ true → x ≡ withParity h buffer i
+      pub begun-put : {after x : List ℕ} → present h n ≡ true → x ≡ withParity h buffer i
           → after ≡ putUnit (shape .size) now n x → Begun h image s buffer (i + 1) after (written + 1)
       begun-put {after} p w put =
           let here : present h (unitIn h s i) ≡ true = sym (unit-there (t .ready) (t .below) hi e) ∙ p in
@@ -97,7 +97,7 @@ module _ {h : Shelf} {image : List ℕ} {s : ℕ} {buffer ranks : List ℕ} {sha
             counted = rw (B .counted, add-one i) (omega (arith, count-true (λ j. present h (unitIn h s j)) i here));
           }
 
-      pub begun-skip : presentOn (h .loss) (n / shape .depth) ≡ false → Begun h image s buffer (i + 1) now written
+      pub begun-skip : present h n ≡ false → Begun h image s buffer (i + 1) now written
       begun-skip p =
           let gone : present h (unitIn h s i) ≡ false = sym (unit-there (t .ready) (t .below) hi e) ∙ p in
           record {

@@ -1,21 +1,23 @@
 -- Losing a disk, any bytes that then stand on it, and a rebuild leave the memory of an image as it was, and the shelf a shelf.
 -- Assumes nothing.
-use mathlib.Core.Path.{_≡_, refl, _∙_}
+use mathlib.Core.Path.{_≡_, _∙_}
 use mathlib.Core.Bool.{true}
 use mathlib.Core.List.{List}
 use Prim.Native.Nat.{ℕ, _<_}
 use lib.ListN.{length}
 use borrow.Author.Tests.{lt-ltb}
 use Rattle.design.specs.declared.Loss.{Loss}
-use Rattle.design.specs.declared.Loss.the-variants.{Nothing, Disk}
 use Rattle.design.specs.declared.Shelf.{Shelf}
-use Rattle.design.specs.Shelf.{lossBelow, isShelf}
+use Rattle.design.specs.Loss.{noLoss, diskLoss, isWhole, lossBelow, withLoss}
+use Rattle.design.specs.Shelf.{isShelf}
+use Rattle.design.proofs.Losses.{none-below, disk-below}
 use Rattle.design.proofs.ShelfTests.{shelf-parts, shelf-whole}
 use Rattle.parity.specs.Units.{unitAt}
 use Rattle.parity.specs.Stripe.{unitSize, units, imageSize, unitIn, present, cell}
-use Rattle.parity.specs.Calls.{withLoss, rebuiltImage}
+use Rattle.parity.specs.Calls.{rebuiltImage}
 use Rattle.parity.proofs.Cases.{cases}
-use Rattle.parity.proofs.Home.{unit-lt, whole-present}
+use Rattle.parity.proofs.Present.{whole-present}
+use Rattle.parity.proofs.Home.{unit-lt}
 use Rattle.parity.proofs.Rebuilt.{rebuilt-length, rebuilt-kept, rebuilt-lost}
 use Rattle.parity.proofs.Memory.{dataOf, asked, Keeps, others-asked}
 
@@ -27,13 +29,11 @@ with-loss-shelf h loss ok l =
     shelf-whole (withLoss h loss)
     (record { limits = w .limits; zero = w .zero; below = w .below; different = w .different; often = w .often; paired = w .paired; loss = l })
 
-pub lose-shelf : (h : Shelf) (d : ℕ) → isShelf h ≡ true → d < h .v → isShelf (withLoss h (Disk d)) ≡ true
-unfolding lossBelow
-lose-shelf h d ok hd = with-loss-shelf h (Disk d) ok (lt-ltb d (h .v) hd)
+pub lose-shelf : (h : Shelf) (d : ℕ) → isShelf h ≡ true → d < h .v → isShelf (withLoss h (diskLoss d)) ≡ true
+lose-shelf h d ok hd = with-loss-shelf h (diskLoss d) ok (disk-below d (h .v) ∙ lt-ltb d (h .v) hd)
 
-pub rebuild-shelf : (h : Shelf) → isShelf h ≡ true → isShelf (withLoss h Nothing) ≡ true
-unfolding lossBelow
-rebuild-shelf h ok = with-loss-shelf h Nothing ok refl
+pub rebuild-shelf : (h : Shelf) → isShelf h ≡ true → isShelf (withLoss h noLoss) ≡ true
+rebuild-shelf h ok = with-loss-shelf h noLoss ok (none-below (h .v))
 
 -- ---- its memory
 
@@ -51,7 +51,7 @@ module _ (h : Shelf) (image : List ℕ) (memory : ℕ → List ℕ) (K : Keeps h
   ok : isShelf h ≡ true
   ok = K .stored .shelf
 
-  pub lose-keeps : (d : ℕ) → h .loss ≡ Nothing → d < h .v → Keeps (withLoss h (Disk d)) image memory
+  pub lose-keeps : (d : ℕ) → isWhole (h .loss) ≡ true → d < h .v → Keeps (withLoss h (diskLoss d)) image memory
   unfolding unitIn cell asked dataOf
   lose-keeps d whole hd = record {
     stored = record { shelf = lose-shelf h d ok hd; size = K .stored .size };
@@ -59,7 +59,7 @@ module _ (h : Shelf) (image : List ℕ) (memory : ℕ → List ℕ) (K : Keeps h
     same = λ s i hs hi p. K .same s i hs hi (whole-present h whole (unitIn h s i));
   }
 
-  pub rebuild-keeps-memory : Keeps (withLoss h Nothing) (rebuiltImage h image) memory
+  pub rebuild-keeps-memory : Keeps (withLoss h noLoss) (rebuiltImage h image) memory
   unfolding unitIn cell asked dataOf
   rebuild-keeps-memory = record {
     stored = record { shelf = rebuild-shelf h ok; size = rebuilt-length h ok image (K .stored .size) };

@@ -6,8 +6,8 @@ use Prim.Native.Nat.{ℕ, _-_, _<_}
 use native.Mathlib.Omega.{arith}
 use lib.Dec.{eqb}
 use borrow.Author.Tests.{eq-eqb, eqb-true, eqb-false, not-true}
-use Rattle.design.specs.declared.Loss.the-variants.{Disk}
 use Rattle.design.specs.declared.Shelf.{Shelf}
+use Rattle.design.specs.Loss.{isLost}
 use Rattle.design.specs.Shelf.{isShelf}
 use Rattle.design.proofs.Counting.{both}
 use Rattle.placement.specs.Layout.{layoutIn, stripes}
@@ -15,7 +15,7 @@ use Rattle.parity.specs.Stripe.{units, unitIn, diskAt, stripeHere, index
 use Rattle.parity.specs.Calls.{onDisk}
 use Rattle.parity.proofs.Cases.{cases}
 use Rattle.parity.proofs.Home.{indexHere-lt, unit-home, beside-absent}
-use Rattle.parity.proofs.Meets.{present-is}
+use Rattle.parity.proofs.Present.{present-is}
 use Rattle.parity.proofs.Sets.{readSet, dataOrParity, writeReadSet, writeSet, stripeSet, rebuildSet}
 
 module _ (h : Shelf) (ok : isShelf h ≡ true) (n : ℕ) (hn : n < units h) where
@@ -70,7 +70,7 @@ module _ (h : Shelf) (ok : isShelf h ≡ true) (n : ℕ) (hn : n < units h) wher
   unfolding stripeSet
   stripe-write-present s t = both (eqb (stripeHere h n) s) (present h n) t .1
 
-  pub rebuild-present : (d e : ℕ) → h .loss ≡ Disk d → rebuildSet h d e n ≡ true → present h n ≡ true
+  pub rebuild-present : (d e : ℕ) → isLost h d ≡ true → rebuildSet h d e n ≡ true → present h n ≡ true
   unfolding rebuildSet
   rebuild-present d e lost t =
       let p = both (eqb (diskAt h n) e && not (eqb e d)) (onDisk h (stripeHere h n) d) t in

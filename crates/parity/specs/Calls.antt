@@ -1,19 +1,18 @@
 -- The promises of the calls on the image (document 01, "The shelf value and the calls"). Each call's rules stand in the order of
 -- their numbers; a refusal changes no byte, hands back the shelf and gives counts of zero.
 use mathlib.Core.Path.{_≡_}
-use mathlib.Core.Bool.{Bool, true, false, not, cond, _&&_, _||_}
+use mathlib.Core.Bool.{Bool, not, cond, _&&_, _||_}
 use mathlib.Core.List.{List, [], _∷_}
 use Prim.Native.Nat.{ℕ, _+_, _-_, _*_}
 use lib.Dec.{ltb, eqb}
 use lib.ListN.{length}
-use Rattle.design.specs.declared.Loss.{Loss}
-use Rattle.design.specs.declared.Loss.the-variants.{Nothing, Disk}
 use Rattle.design.specs.declared.Shelf.{Shelf}
 use Rattle.design.specs.declared.Verdict.{Verdict}
 use Rattle.design.specs.declared.Verdict.the-variants.{Accepted, Refused}
 use Rattle.design.specs.declared.Refusal.the-variants.{OtherImage, OutOfRange, OtherBuffer, SomeLost, NoneLost}
 use Rattle.design.specs.Count.{count, listFrom}
 use Rattle.design.specs.Refusals.{Rule, firstBroken}
+use Rattle.design.specs.Loss.{noLoss, diskLoss, isWhole, isLost, withLoss}
 use Rattle.design.specs.Tuples.{holds}
 use Rattle.design.specs.Shelf.{shelfRule}
 use Rattle.placement.specs.Layout.{layoutIn, stripes, addresses, stripeOf, jOf, tupleOf}
@@ -22,7 +21,7 @@ use Rattle.parity.specs.declared.Losing.{Losing}
 use Rattle.parity.specs.declared.Rebuilding.{Rebuilding}
 use Rattle.parity.specs.declared.Scrubbing.{Scrubbing}
 use Rattle.parity.specs.Units.{zeros, unitAt, xorU, xorSum, put}
-use Rattle.parity.specs.Stripe.{unitSize, depth, imageSize, unitIn, stripeHere, indexHere, present, cell, others, wrong, patch}
+use Rattle.parity.specs.Stripe.{unitSize, depth, units, imageSize, unitIn, stripeHere, indexHere, present, cell, others, wrong, patch}
 
 -- ---- the rules; of a buffer they ask its length n alone
 
@@ -44,10 +43,6 @@ placeRule h d o = record { refusal = OutOfRange; kept = ltb d (h .v) && ltb o (d
 -- a buffer of so many units
 abbrev pub bufferRule : Shelf → ℕ → ℕ → Rule
 bufferRule h n count = record { refusal = OtherBuffer; kept = eqb n (count * unitSize h) }
-
-abbrev pub isWhole : Loss → Bool
-isWhole Nothing = true
-isWhole (Disk d) = false
 
 abbrev pub wholeRule : Shelf → Rule
 wholeRule h = record { refusal = SomeLost; kept = isWhole (h .loss) }
@@ -164,12 +159,8 @@ WroteStripe h image s buffer =
 
 -- ---- lose
 
-abbrev pub withLoss : Shelf → Loss → Shelf
-withLoss h loss =
-    record { v = h .v; k = h .k; b = h .b; T = h .T; u = h .u; r = h .r; lambda = h .lambda; table = h .table; loss = loss }
-
 unfoldable pub lost : Shelf → ℕ → Losing
-lost h d = record { verdict = firstBroken (loseRules h d); shelf = by (firstBroken (loseRules h d)) (withLoss h (Disk d)) h }
+lost h d = record { verdict = firstBroken (loseRules h d); shelf = by (firstBroken (loseRules h d)) (withLoss h (diskLoss d)) h }
 
 -- ---- rebuild
 
@@ -180,17 +171,16 @@ rebuiltImage h image = patch h image (λ n. not (present h n)) (λ n. others h i
 abbrev pub onDisk : Shelf → ℕ → ℕ → Bool
 onDisk h s d = holds (layoutIn h .design) (tupleOf (layoutIn h) s) d
 
--- the units read from disk e: the stripes that it shares with the lost disk
-unfoldable pub readFrom : Shelf → Loss → ℕ → ℕ
-readFrom h Nothing e = 0
-readFrom h (Disk d) e = cond (eqb e d) 0 (count (λ s. onDisk h s d && onDisk h s e) (stripes (layoutIn h)))
+-- the units read from disk e: one for each unit that is restored and whose stripe has a unit there; of the lost disk none
+unfoldable pub readFrom : Shelf → ℕ → ℕ
+readFrom h e = cond (isLost h e) 0 (count (λ n. not (present h n) && onDisk h (stripeHere h n) e) (units h))
 
 abbrev pub rebuilding : Verdict → Shelf → Rebuilding
 rebuilding verdict h =
     record {
       verdict = verdict;
-      shelf = by verdict (withLoss h Nothing) h;
-      counts = by verdict (listFrom 0 64 (readFrom h (h .loss))) (zeros 64);
+      shelf = by verdict (withLoss h noLoss) h;
+      counts = by verdict (listFrom 0 64 (readFrom h)) (zeros 64);
     }
 
 abbrev pub Rebuilt : Shelf → List ℕ → Rebuilding → List ℕ → Type 0

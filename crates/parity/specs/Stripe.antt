@@ -1,12 +1,11 @@
 -- The image of a shelf (document 01, "Where a unit stands"): v regions, disk 0 first, of T·r·k units each. A stripe's units are
 -- named by their use: data 0 to k - 2 in address order, and k - 1, the parity.
-use mathlib.Core.Bool.{Bool, true, not, cond}
+use mathlib.Core.Bool.{Bool, not, cond}
 use mathlib.Core.List.{List}
 use Prim.Native.Nat.{ℕ, _+_, _-_, _*_, _/_, _%_, _^_}
 use lib.Dec.{ltb, eqb}
-use Rattle.design.specs.declared.Loss.{Loss}
-use Rattle.design.specs.declared.Loss.the-variants.{Nothing, Disk}
 use Rattle.design.specs.declared.Shelf.{Shelf}
+use Rattle.design.specs.Loss.{isLost}
 use Rattle.placement.specs.Slots.{positionOf}
 use Rattle.placement.specs.Layout.{layoutIn, offsets, parityOf, diskOf, offsetOf, stripeAt, positionAt}
 use Rattle.parity.specs.Units.{zeros, unitAt, unitsOf, xorSum, isZero, put}
@@ -46,14 +45,10 @@ indexHere h n =
     let p : ℕ = positionAt (layoutIn h) (diskAt h n) (n % depth h) in
     cond (eqb p parity) (h .k - 1) (cond (ltb p parity) p (p - 1))
 
--- ---- present: not on the lost disk
-
-abbrev pub presentOn : Loss → ℕ → Bool
-presentOn Nothing d = true
-presentOn (Disk lost) d = not (eqb d lost)
+-- ---- unit n of the image is present: not on the lost disk
 
 unfoldable pub present : Shelf → ℕ → Bool
-present h n = presentOn (h .loss) (diskAt h n)
+present h n = not (isLost h (diskAt h n))
 
 -- ---- what the image holds
 

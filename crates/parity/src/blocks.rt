@@ -3,7 +3,7 @@
 // unit n is number n * per + q of the row.
 ghost use mathlib.Core.Path.{_≡_};
 ghost use Prim.Native.Nat.{_+_, _*_, _≤_, _<_};
-ghost use lib.ListN.{length, getD};
+ghost use lib.ListN.{length};
 ghost use Rattle.parity.specs.Units.{unitAt, xorU, xorSum};
 ghost use Rattle.parity.specs.inner.Stores.{putUnit};
 ghost use Rattle.parity.specs.inner.Blocks.{byBlocks, restOf, numbered, blocksAt, Within};
@@ -48,7 +48,7 @@ fn rest(row: &[u8], numbers: &Numbers, k: usize, i: usize, per: usize, q: usize)
 pub fn restore(image: &mut [u8], numbers: &Numbers, k: usize, i: usize, per: usize)
     requires { ⌜ (k ≤ 16) × (i < k) ⌝ }
     requires { ⌜ Within (per * 128) (numbered (now numbers)) k (length (now image)) ⌝ }
-    ensures { λ _. ⌜ now (image .exit) ≡ putUnit (per * 128) (now (image .entry)) (getD (now (numbers .entry)) i 0) (restOf (per * 128) (now (image .entry)) (numbered (now (numbers .entry))) i k) ⌝ }
+    ensures { λ _. ⌜ now (image .exit) ≡ putUnit (per * 128) (now (image .entry)) (numbered (now (numbers .entry)) i) (restOf (per * 128) (now (image .entry)) (numbered (now (numbers .entry))) i k) ⌝ }
 {
     let at = numbers[i] * per;
     for q in 0..per {
@@ -61,7 +61,7 @@ pub fn restore(image: &mut [u8], numbers: &Numbers, k: usize, i: usize, per: usi
 pub fn reparity(image: &mut [u8], numbers: &Numbers, k: usize, i: usize, unit: &[u8], per: usize)
     requires { ⌜ (k < 16) × (i < k) × (length (now unit) ≡ per * 128) ⌝ }
     requires { ⌜ Within (per * 128) (numbered (now numbers)) (k + 1) (length (now image)) ⌝ }
-    ensures { λ _. ⌜ now (image .exit) ≡ putUnit (per * 128) (now (image .entry)) (getD (now (numbers .entry)) k 0) (xorU (restOf (per * 128) (now (image .entry)) (numbered (now (numbers .entry))) i k) (now (unit .entry))) ⌝ }
+    ensures { λ _. ⌜ now (image .exit) ≡ putUnit (per * 128) (now (image .entry)) (numbered (now (numbers .entry)) k) (xorU (restOf (per * 128) (now (image .entry)) (numbered (now (numbers .entry))) i k) (now (unit .entry))) ⌝ }
 {
     let at = numbers[k] * per;
     for q in 0..per {

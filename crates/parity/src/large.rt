@@ -18,11 +18,10 @@ pub fn store_stripe(shelf: Shelf, image: &mut [u8], s: usize, buffer: &[u8]) -> 
     let ranks = sizes::ranks_of(shelf);
     let shape = sizes::shape_of(shelf);
     let size = shape.size;
-    let loss = shelf.loss;
     let mut written = 0;
     for i in 0..shelf.k - 1 {
         let n = stripe::number(&table, &ranks, shape, s, i);
-        if presence::is_present(loss, n / shape.depth) {
+        if presence::is_present(shelf, n) {
             let at = i * size;
             units::store(image, n, &buffer[at..at + size]);
             written += 1;
@@ -30,7 +29,7 @@ pub fn store_stripe(shelf: Shelf, image: &mut [u8], s: usize, buffer: &[u8]) -> 
     }
     let last = shelf.k - 1;
     let parity = stripe::number(&table, &ranks, shape, s, last);
-    if presence::is_present(loss, parity / shape.depth) {
+    if presence::is_present(shelf, parity) {
         stripe::seal(image, parity, buffer, size, last);
         written += 1;
     }

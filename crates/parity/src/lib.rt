@@ -128,7 +128,7 @@ pub fn lose(shelf: Shelf, disk: usize) -> Losing
     let Verdict::Accepted = verdict else {
         return Losing { verdict, shelf };
     };
-    let shelf = presence::with_loss(shelf, Loss::Disk(disk as u8));
+    let shelf = presence::with_loss(shelf, Loss::of(disk as u8));
     Losing { verdict, shelf }
 }
 
@@ -146,7 +146,7 @@ pub fn rebuild(shelf: Shelf, image: &mut [u8]) -> Rebuilding
     };
     restoring::restore_disk(shelf, image);
     let counts = restoring::counts(shelf);
-    let shelf = presence::with_loss(shelf, Loss::Nothing);
+    let shelf = presence::with_loss(shelf, Loss::none());
     Rebuilding {
         verdict,
         shelf,

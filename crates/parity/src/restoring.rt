@@ -1,15 +1,16 @@
 // The rebuild of the lost disk, offset after offset.
 ghost use mathlib.Core.Path.{_≡_};
-ghost use mathlib.Core.Bool.{true, cond};
+ghost use mathlib.Core.Bool.{true, false, cond};
 ghost use Prim.Native.Nat.{_-_, _<_};
 ghost use lib.Dec.{ltb, eqb};
 ghost use Rattle.design.specs.Count.{listFrom};
+ghost use Rattle.design.specs.Loss.{isWhole};
 ghost use Rattle.design.specs.Shelf.{isShelf};
 ghost use Rattle.parity.specs.Calls.{rebuiltImage, readFrom};
 ghost use Rattle.parity.specs.inner.Shapes.{Held};
+use crate::presence;
 use crate::sizes;
 use crate::stripe;
-use design::Loss;
 use design::Shelf;
 use placement::fast;
 
@@ -32,12 +33,11 @@ fn index_of(k: usize, parity: usize, position: usize) -> usize
 // looked up once.
 pub fn restore_disk(shelf: Shelf, image: &mut [u8])
     requires { ⌜ Held shelf (now image) ⌝ }
+    requires { ⌜ isWhole (shelf .loss) ≡ false ⌝ }
     ensures { λ _. ⌜ now (image .exit) ≡ rebuiltImage shelf (now (image .entry)) ⌝ }
 {
     let loss = shelf.loss;
-    let Loss::Disk(lost) = loss else {
-        return;
-    };
+    let lost = presence::lost_disk(loss);
     let k = shelf.k;
     let r = shelf.r;
     let table = shelf.table;
@@ -56,17 +56,15 @@ pub fn restore_disk(shelf: Shelf, image: &mut [u8])
 // The units read from each disk: lambda for each copy, of which there are T·k, from every other disk below v.
 pub fn counts(shelf: Shelf) -> [usize; Shelf::V_MOST]
     requires { ⌜ isShelf shelf ≡ true ⌝ }
-    ensures { λ r. ⌜ r ≡ listFrom 0 64 (readFrom shelf (shelf .loss)) ⌝ }
+    requires { ⌜ isWhole (shelf .loss) ≡ false ⌝ }
+    ensures { λ r. ⌜ r ≡ listFrom 0 64 (readFrom shelf) ⌝ }
 {
     let mut counts = [0; Shelf::V_MOST];
     let loss = shelf.loss;
-    let Loss::Disk(lost) = loss else {
-        return counts;
-    };
     let v = shelf.v;
     let each = shelf.T * shelf.k * shelf.lambda;
     for e in 0..v {
-        if e != lost as usize {
+        if !presence::is_lost(loss, e) {
             counts[e] = each;
         }
     }

@@ -108,8 +108,11 @@ pub fn of_place(shelf: Shelf, n: usize, disk: usize, offset: usize) -> Verdict
     let Verdict::Accepted = verdict else {
         return verdict;
     };
-    let loss = shelf.loss;
     let there = also(verdict, disk < shelf.v, Refusal::OutOfRange);
     let ranged = also(there, offset < fast::offsets(shelf), Refusal::OutOfRange);
-    also(ranged, presence::is_present(loss, disk), Refusal::SomeLost)
+    let Verdict::Accepted = ranged else {
+        return ranged;
+    };
+    let n = sizes::unit_at(shelf, disk, offset);
+    also(ranged, presence::is_present(shelf, n), Refusal::SomeLost)
 }

@@ -18,7 +18,7 @@ pub fn part(shelf: Shelf, image: &[u8], disk: usize, offset: usize) -> &[u8]
     ensures { λ r. ⌜ now r ≡ unitAt (unitSize shelf) (now (image .entry)) (disk * depth shelf + offset) ⌝ }
 {
     let size = sizes::unit_size(shelf);
-    let at = (disk * fast::offsets(shelf) + offset) * size;
+    let at = sizes::unit_at(shelf, disk, offset) * size;
     &image[at..at + size]
 }
 
@@ -28,8 +28,8 @@ pub fn shown<'a>(shelf: Shelf, image: &'a [u8], address: usize, other: &'a [u8])
     ensures { λ r. ⌜ now r ≡ cond (present shelf (unitIn shelf (stripeOf (layoutIn shelf) address) (jOf (layoutIn shelf) address))) (cell shelf (now (image .entry)) (stripeOf (layoutIn shelf) address) (jOf (layoutIn shelf) address)) (now (other .entry)) ⌝ }
 {
     let spot = fast::spot(shelf, address);
-    let loss = shelf.loss;
-    if presence::is_present(loss, spot.disk) {
+    let n = sizes::unit_at(shelf, spot.disk, spot.offset);
+    if presence::is_present(shelf, n) {
         return part(shelf, image, spot.disk, spot.offset);
     }
     other

@@ -1,9 +1,9 @@
 // The sizes of a shelf's image, and the numbers by which its units are found.
 ghost use mathlib.Core.Path.{_≡_};
 ghost use mathlib.Core.Bool.{true};
-ghost use Prim.Native.Nat.{_*_};
+ghost use Prim.Native.Nat.{_+_, _*_, _<_};
 ghost use Rattle.design.specs.Shelf.{isShelf};
-ghost use Rattle.parity.specs.Stripe.{unitSize, imageSize};
+ghost use Rattle.parity.specs.Stripe.{unitSize, depth, imageSize};
 ghost use Rattle.parity.specs.inner.Stores.{Ranked};
 ghost use Rattle.parity.specs.inner.Shapes.{shapeIn};
 use crate::Shape;
@@ -25,6 +25,15 @@ pub fn image_size(shelf: Shelf) -> usize
     ensures { λ r. ⌜ r ≡ imageSize shelf ⌝ }
 {
     shelf.v * fast::offsets(shelf) * unit_size(shelf)
+}
+
+// The number in the image of the unit at a place.
+pub fn unit_at(shelf: Shelf, disk: usize, offset: usize) -> usize
+    requires { ⌜ isShelf shelf ≡ true ⌝ }
+    requires { ⌜ (disk < shelf .v) × (offset < depth shelf) ⌝ }
+    ensures { λ r. ⌜ r ≡ disk * depth shelf + offset ⌝ }
+{
+    disk * fast::offsets(shelf) + offset
 }
 
 pub fn shape_of(shelf: Shelf) -> Shape

@@ -20,14 +20,12 @@ use design::Shelf;
 use design::Verdict;
 use placement::fast;
 
-// Where the unit of an address stands: its stripe and its index there, and the disk and the number in the image of the unit and of the
-// stripe's parity.
+// Where the unit of an address stands: its stripe and its index there, and the numbers in the image of the unit and of the stripe's
+// parity.
 struct Standing {
     stripe: usize,
     index: usize,
-    disk: usize,
     unit: usize,
-    parity_disk: usize,
     parity: usize,
 }
 
@@ -36,15 +34,12 @@ fn standing_of(shelf: Shelf, address: usize) -> Standing
     ensures { λ r. ⌜ r ≡ standingIn shelf address ⌝ }
 {
     let spot = fast::spot(shelf, address);
-    let depth = fast::offsets(shelf);
     let count = shelf.k - 1;
     Standing {
         stripe: address / count,
         index: address % count,
-        disk: spot.disk,
-        unit: spot.disk * depth + spot.offset,
-        parity_disk: spot.parity_disk,
-        parity: spot.parity_disk * depth + spot.parity_offset,
+        unit: sizes::unit_at(shelf, spot.disk, spot.offset),
+        parity: sizes::unit_at(shelf, spot.parity_disk, spot.parity_offset),
     }
 }
 
@@ -54,8 +49,7 @@ pub fn fetch(shelf: Shelf, image: &[u8], address: usize, buffer: &mut [u8]) -> u
     ensures { λ r. ⌜ (r ≡ readCost shelf (stripeOf (layoutIn shelf) address) (jOf (layoutIn shelf) address)) × (now (buffer .exit) ≡ fetched shelf (now (image .entry)) (stripeOf (layoutIn shelf) address) (jOf (layoutIn shelf) address)) ⌝ }
 {
     let at = standing_of(shelf, address);
-    let loss = shelf.loss;
-    if presence::is_present(loss, at.disk) {
+    if presence::is_present(shelf, at.unit) {
         units::load(buffer, image, at.unit);
         return 1;
     }
@@ -80,8 +74,7 @@ pub fn store(shelf: Shelf, image: &mut [u8], address: usize, unit: &[u8]) -> Cos
     ensures { λ r. ⌜ (r ≡ costs Accepted (writeReads shelf (stripeOf (layoutIn shelf) address) (jOf (layoutIn shelf) address)) (writeWrites shelf (stripeOf (layoutIn shelf) address) (jOf (layoutIn shelf) address))) × (now (image .exit) ≡ unitWritten shelf (now (image .entry)) (stripeOf (layoutIn shelf) address) (jOf (layoutIn shelf) address) (now (unit .entry))) ⌝ }
 {
     let at = standing_of(shelf, address);
-    let loss = shelf.loss;
-    if !presence::is_present(loss, at.parity_disk) {
+    if !presence::is_present(shelf, at.parity) {
         units::store(image, at.unit, unit);
         return Cost {
             verdict: Verdict::Accepted,
@@ -89,7 +82,7 @@ pub fn store(shelf: Shelf, image: &mut [u8], address: usize, unit: &[u8]) -> Cos
             written: 1,
         };
     }
-    if !presence::is_present(loss, at.disk) {
+    if !presence::is_present(shelf, at.unit) {
         store_lost(shelf, image, at.stripe, at.index, unit);
         return Cost {
             verdict: Verdict::Accepted,

@@ -1,4 +1,4 @@
-// The exclusive-or of the units of a stripe, unit after unit: of few units, and of those that are no whole blocks.
+// The exclusive-or of the units of a stripe, unit after unit: where it has two or three, or they are no whole blocks.
 ghost use mathlib.Core.Path.{_≡_};
 ghost use mathlib.Core.Bool.{cond};
 ghost use Prim.Native.Nat.{_+_, _-_, _*_, _≤_, _<_};

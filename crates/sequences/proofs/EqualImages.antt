@@ -1,16 +1,16 @@
 -- "Two such sequences on one sheet, ending with no disk lost and having the same accepted writes in the same order at each
 -- address, end with equal images, wherever the losses fell." Assumes nothing.
-use mathlib.Core.Path.{_≡_, refl, sym, ap, _∙_}
+use mathlib.Core.Path.{_≡_, sym, ap, _∙_}
 use mathlib.Core.List.{List}
 use Prim.Native.Nat.{ℕ, _+_, _-_, _*_, _<_}
 use lib.Arith.{digits-lt}
 use lib.ListN.{length}
-use Rattle.design.specs.declared.Loss.the-variants.{Nothing}
 use Rattle.design.specs.declared.Shelf.{Shelf}
+use Rattle.design.specs.Loss.{noLoss, withLoss}
+use Rattle.design.proofs.Losses.{none-whole}
 use Rattle.placement.specs.Layout.{layoutIn, stripes, addresses}
 use Rattle.parity.specs.Units.{zeros}
 use Rattle.parity.specs.Stripe.{unitSize}
-use Rattle.parity.specs.Calls.{withLoss}
 use Rattle.parity.proofs.Memory.{dataOf, Keeps, memory-determines}
 use Rattle.parity.proofs.Remembered.{asked-same}
 use Rattle.sequences.specs.Sequence.{Event, State, Run, shelfFrom}
@@ -35,27 +35,27 @@ module _ (h : Shelf) (memory memory′ : ℕ → List ℕ) (same : (a : ℕ) →
 -- ---- the end of a sequence
 
 -- with no disk lost the shelf is the one that was opened
-whole-shelf : (sheet : List ℕ) (events : List Event) (z : State) → Run sheet events z → z .shelf .loss ≡ Nothing → z .shelf ≡ withLoss (shelfFrom sheet) Nothing
+whole-shelf : (sheet : List ℕ) (events : List Event) (z : State) → Run sheet events z → z .shelf .loss ≡ noLoss → z .shelf ≡ withLoss (shelfFrom sheet) noLoss
 whole-shelf sheet events z R none =
     run-shelf sheet events z R ∙ ap (withLoss (shelfFrom sheet)) (sym (run-loss sheet events z R) ∙ none)
 
 -- and the image keeps the units last written
-whole-keeps : (sheet : List ℕ) (events : List Event) (z : State) → Run sheet events z → z .shelf .loss ≡ Nothing
-    → Keeps (withLoss (shelfFrom sheet) Nothing) (z .image) (lastWritten (shelfFrom sheet) events)
+whole-keeps : (sheet : List ℕ) (events : List Event) (z : State) → Run sheet events z → z .shelf .loss ≡ noLoss
+    → Keeps (withLoss (shelfFrom sheet) noLoss) (z .image) (lastWritten (shelfFrom sheet) events)
 whole-keeps sheet events z R none = rw (whole-shelf sheet events z R none) at (run-remembers sheet events z R)
 
 -- "the same accepted writes in the same order at each address": the lists of the units written there are equal
 pub equal-images : (sheet : List ℕ) (one two : List Event) (x y : State) → Run sheet one x → Run sheet two y
-    → x .shelf .loss ≡ Nothing → y .shelf .loss ≡ Nothing
+    → x .shelf .loss ≡ noLoss → y .shelf .loss ≡ noLoss
     → ((a : ℕ) → a < addresses (layoutIn (shelfFrom sheet)) → written (shelfFrom sheet) one a ≡ written (shelfFrom sheet) two a)
     → (x .image ≡ y .image) × (x .shelf ≡ y .shelf)
 unfolding lastWritten
 equal-images sheet one two x y P Q whole whole′ same =
-    let h : Shelf = withLoss (shelfFrom sheet) Nothing in
+    let h : Shelf = withLoss (shelfFrom sheet) noLoss in
     let A = whole-keeps sheet one x P whole in
     let B = whole-keeps sheet two y Q whole′ in
     let last : (a : ℕ) → a < addresses (layoutIn h) → lastWritten (shelfFrom sheet) one a ≡ lastWritten (shelfFrom sheet) two a
     = λ a l. ap (lastOr (zeros (unitSize h))) (same a l) in (
-      memory-determines h (lastWritten (shelfFrom sheet) two) (x .image) (y .image) refl (keeps-same h _ _ last (x .image) A (B .sized)) B,
+      memory-determines h (lastWritten (shelfFrom sheet) two) (x .image) (y .image) none-whole (keeps-same h _ _ last (x .image) A (B .sized)) B,
       whole-shelf sheet one x P whole ∙ sym (whole-shelf sheet two y Q whole′),
     )

@@ -1,12 +1,14 @@
 -- There is a sequence for every accepted sheet and every image of the right length, and from any state any call, with any
 -- arguments, leads on. Assumes nothing.
-use mathlib.Core.Path.{_≡_, refl, sym, ap}
+use mathlib.Core.Path.{_≡_, refl, sym, ap, _∙_}
 use mathlib.Core.List.{List, []}
 use Prim.Native.Nat.{ℕ}
 use lib.ListN.{length}
 use Rattle.design.specs.declared.Shelf.{Shelf}
 use Rattle.design.specs.declared.Verdict.the-variants.{Accepted}
+use Rattle.design.specs.Loss.{isWhole}
 use Rattle.design.specs.Sheet.{opened}
+use Rattle.design.proofs.Losses.{none-whole}
 use Rattle.design.proofs.RoundTrip.{opened-is-shelf}
 use Rattle.parity.specs.declared.Cost.{Cost}
 use Rattle.parity.specs.declared.Losing.{Losing}
@@ -25,7 +27,7 @@ pub can-start : (sheet : List ℕ) (found : List ℕ) → opened sheet .verdict 
 unfolding Steps
 can-start sheet found e size =
     let h : Shelf = shelfFrom sheet in
-    let whole = ap (λ (h : Shelf). h .loss) (opened-whole sheet e) in
+    let whole = ap (λ (h : Shelf). isWhole (h .loss)) (opened-whole sheet e) ∙ none-whole in
     let v = whole-accepted h found .1 (record { stored = record { shelf = opened-is-shelf sheet e; size = size }; whole = whole }) in
     record {
       start = record { shelf = h; image = zeros (length found) };

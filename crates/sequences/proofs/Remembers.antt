@@ -6,18 +6,18 @@ use mathlib.Core.List.{List, [], _∷_, _++_}
 use Prim.Native.Nat.{ℕ}
 use lib.Dec.{eqb}
 use Rattle.design.specs.declared.Loss.{Loss}
-use Rattle.design.specs.declared.Loss.the-variants.{Nothing}
 use Rattle.design.specs.declared.Shelf.{Shelf}
 use Rattle.design.specs.declared.Refusal.{Refusal}
 use Rattle.design.specs.declared.Verdict.{Verdict}
 use Rattle.design.specs.declared.Verdict.the-variants.{Accepted, Refused}
+use Rattle.design.specs.Loss.{noLoss, withLoss}
 use Rattle.placement.specs.Layout.{layoutIn, stripeOf, jOf}
 use Rattle.parity.specs.declared.Cost.{Cost}
 use Rattle.parity.specs.declared.Losing.{Losing}
 use Rattle.parity.specs.declared.Rebuilding.{Rebuilding}
 use Rattle.parity.specs.Units.{zeros, unitAt}
 use Rattle.parity.specs.Stripe.{unitSize}
-use Rattle.parity.specs.Calls.{by, withLoss, Wrote, WroteStripe, Rebuilt, lost}
+use Rattle.parity.specs.Calls.{by, Wrote, WroteStripe, Rebuilt, lost}
 use Rattle.parity.proofs.By.{by-accepted, by-refused}
 use Rattle.parity.proofs.Memory.{Keeps}
 use Rattle.parity.proofs.PromisedMemory.{blank-remembers, write-remembers, stripe-write-remembers, lose-remembers, rebuild-remembers}
@@ -125,5 +125,5 @@ unfolding lastWritten
 run-remembers sheet events z R =
     let h : Shelf = shelfFrom sheet in
     let s = R .starts in
-    steps-remember h Nothing (R .start) z events (λ a. zeros (unitSize h)) (s .opens ∙ opened-whole sheet (s .accepts)) (R .steps)
+    steps-remember h noLoss (R .start) z events (λ a. zeros (unitSize h)) (s .opens ∙ opened-whole sheet (s .accepts)) (R .steps)
     (rw (ap (λ (h : Shelf). unitSize h) (s .opens)) at (blank-remembers (R .start .shelf) (s .found) (R .start .image) (s .blanks)))

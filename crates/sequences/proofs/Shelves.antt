@@ -3,15 +3,15 @@ use mathlib.Core.Path.{_≡_, refl, ap, _∙_}
 use mathlib.Core.List.{List, [], _∷_, _++_}
 use Prim.Native.Nat.{ℕ}
 use Rattle.design.specs.declared.Loss.{Loss}
-use Rattle.design.specs.declared.Loss.the-variants.{Nothing, Disk}
 use Rattle.design.specs.declared.Shelf.{Shelf}
 use Rattle.design.specs.declared.Verdict.{Verdict}
 use Rattle.design.specs.declared.Verdict.the-variants.{Accepted, Refused}
+use Rattle.design.specs.Loss.{noLoss, diskLoss, withLoss}
 use Rattle.design.specs.Sheet.{shelfOf, opened}
 use Rattle.design.proofs.Refused.{accepted-shelf}
-use Rattle.parity.specs.Calls.{by, withLoss, lost}
+use Rattle.parity.specs.Calls.{by, lost}
 use Rattle.sequences.specs.Sequence.{Event, write, writeStripe, lose, rebuild, look, disturb, State, Step, Steps, Run, shelfFrom}
-use Rattle.sequences.specs.Lost.{lossBy, lossFrom, lostAfter}
+use Rattle.sequences.specs.Lost.{lossBy, lossFrom, lostAfter, shelfAfter}
 use Rattle.sequences.specs.Written.{writtenBy}
 
 -- what a call hands back by its verdict
@@ -25,9 +25,9 @@ unfolding lost lossBy
 shelf-step h loss x y (write a unit answer) (p, e) S = e ∙ S
 shelf-step h loss x y (writeStripe s buffer answer) (p, e) S = e ∙ S
 shelf-step h loss x y (lose d answer) (p, e, i) S =
-    e ∙ rw p (handed h (x .shelf) _ loss (Disk d) S)
+    e ∙ rw p (handed h (x .shelf) _ loss (diskLoss d) S)
 shelf-step h loss x y (rebuild answer) (p, e) S =
-    e ∙ rw (p .answers) (handed h (x .shelf) _ loss Nothing S)
+    e ∙ rw (p .answers) (handed h (x .shelf) _ loss noLoss S)
 shelf-step h loss x y (look call) (p, e) S = ap (λ (x : State). x .shelf) e ∙ S
 shelf-step h loss x y disturb (p, e) S = e ∙ S
 
@@ -43,13 +43,13 @@ loss-append loss [] e = refl
 loss-append loss (x ∷ events) e = loss-append (lossBy x loss) events e
 
 -- an opened shelf has no disk lost
-pub opened-whole : (sheet : List ℕ) → opened sheet .verdict ≡ Accepted → shelfFrom sheet ≡ withLoss (shelfFrom sheet) Nothing
+pub opened-whole : (sheet : List ℕ) → opened sheet .verdict ≡ Accepted → shelfFrom sheet ≡ withLoss (shelfFrom sheet) noLoss
 unfolding shelfOf
 opened-whole sheet e = rw (accepted-shelf sheet e)
 
-pub run-shelf : (sheet : List ℕ) (events : List Event) (z : State) → Run sheet events z → z .shelf ≡ withLoss (shelfFrom sheet) (lostAfter events)
+pub run-shelf : (sheet : List ℕ) (events : List Event) (z : State) → Run sheet events z → z .shelf ≡ shelfAfter sheet events
 run-shelf sheet events z R =
-    shelf-steps (shelfFrom sheet) Nothing (R .start) z events (R .steps) (R .starts .opens ∙ opened-whole sheet (R .starts .accepts))
+    shelf-steps (shelfFrom sheet) noLoss (R .start) z events (R .steps) (R .starts .opens ∙ opened-whole sheet (R .starts .accepts))
 
 pub run-loss : (sheet : List ℕ) (events : List Event) (z : State) → Run sheet events z → z .shelf .loss ≡ lostAfter events
 run-loss sheet events z R = ap (λ (h : Shelf). h .loss) (run-shelf sheet events z R)

@@ -8,9 +8,10 @@ use Rattle.design.specs.declared.Refusal.{Refusal}
 use Rattle.design.specs.declared.Shelf.{Shelf}
 use Rattle.design.specs.declared.Verdict.{Verdict}
 use Rattle.design.specs.declared.Verdict.the-variants.{Accepted, Refused}
+use Rattle.design.specs.Loss.{withLoss}
 use Rattle.placement.specs.Layout.{layoutIn, stripeOf, jOf}
 use Rattle.parity.specs.Stripe.{unitSize, unitIn, stripeHere, present}
-use Rattle.parity.specs.Calls.{by, withLoss}
+use Rattle.parity.specs.Calls.{by}
 use Rattle.sequences.specs.Sequence.{Event, write, writeStripe, lose, rebuild, look, disturb, State}
 use Rattle.sequences.specs.Lost.{lossBy}
 

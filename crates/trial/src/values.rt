@@ -2,6 +2,7 @@
 use crate::commands;
 use crate::print;
 use design::Loss;
+use design::Lost;
 use design::Refusal;
 use design::Shelf;
 
@@ -30,9 +31,10 @@ fn entries(shelf: Shelf) {
 }
 
 fn loss(loss: Loss) {
-    match loss {
-        Loss::Nothing => print::say(print::WHOLE),
-        Loss::Disk(d) => {
+    let lost = loss.lost;
+    match lost {
+        Lost::Nothing => print::say(print::WHOLE),
+        Lost::Disk(d) => {
             print::say(print::LOST);
             print::number(d as usize);
         }
@@ -87,8 +89,8 @@ pub fn set(mut shelf: Shelf, command: usize, i: usize, x: usize) -> Shelf {
         commands::FIELD_R => shelf.r = x,
         commands::FIELD_LAMBDA => shelf.lambda = x,
         commands::TABLE => shelf = with_entry(shelf, i, x),
-        commands::LOST => shelf = with_loss(shelf, Loss::Disk((x % 256) as u8)),
-        _ => shelf = with_loss(shelf, Loss::Nothing),
+        commands::LOST => shelf = with_loss(shelf, Loss::of((x % 256) as u8)),
+        _ => shelf = with_loss(shelf, Loss::none()),
     }
     shelf
 }

@@ -1,10 +1,11 @@
 -- `parity::rebuild` meets its contract: the answer and the image are as the verdict says. Assumes nothing.
-use mathlib.Core.Path.{_≡_, sym, _∙_}
+use mathlib.Core.Path.{_≡_, sym, ap, _∙_}
 use mathlib.Core.List.{List}
 use Prim.Native.Nat.{ℕ}
 use borrow.Author.Needs.{needs}
 use Rattle.design.specs.declared.Shelf.{Shelf}
 use Rattle.design.specs.declared.Verdict.{Verdict}
+use Rattle.design.specs.Loss.{withLoss}
 use Rattle.parity.specs.declared.Rebuilding.{Rebuilding}
 use Rattle.parity.proofs.By.{accepted-gives, refused-gives}
 use Rattle.parity.proofs.Accepted.{LostCall, rebuild-accepted}
@@ -31,19 +32,19 @@ returns c =
     }
 
 restore-disk-requires : tie.Need-restore-disk-requires
-restore-disk-requires c κs = accepted (c .before) .stored
+restore-disk-requires c κs = let w = accepted (c .before) in (w .stored, w .lost)
 
 counts-requires : tie.Need-counts-requires
-counts-requires c κs = accepted (c .before .before .before .before) .stored .shelf
+counts-requires c κs = let w = accepted (c .before .before .before .before) in (w .stored .shelf, w .lost)
 
 returns-2 : tie.Need-returns-2
 returns-2 c =
-    let stored = c .before .before .before .before in
+    let stored = c .before .before .before .before .before in
     let told = stored .before .before in
     let judged = told .before .before .of-rebuild .ensures in
     let passed = told .enum-told .given .1 in
     record {
-      answers = same-answer judged (accepted-gives _ _ judged passed (c .with-loss .ensures)) (accepted-gives _ _ judged passed (c .before .counts .ensures));
+      answers = same-answer judged (accepted-gives _ _ judged passed (c .with-loss .ensures ∙ ap (withLoss (told .before .before .before .before .args .shelf)) (c .before .none .ensures))) (accepted-gives _ _ judged passed (c .before .before .counts .ensures));
       leaves = accepted-gives _ _ judged passed (stored .restore-disk .ensures);
     }
 
@@ -57,6 +58,7 @@ rebuild-spec =
     returns
     restore-disk-requires
     counts-requires
+    (λ c κs. search needs)
     (λ c κs. search needs)
     (λ c. search needs)
     returns-2)

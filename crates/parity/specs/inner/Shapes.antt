@@ -11,19 +11,17 @@ use Rattle.parity.specs.declared.storing.Standing.{Standing}
 use Rattle.parity.specs.declared.Shape.{Shape}
 use Rattle.parity.specs.Units.{xorSum, put}
 use Rattle.parity.specs.inner.Stores.{putUnit}
-use Rattle.parity.specs.Stripe.{unitSize, depth, imageSize, unitIn, diskAt, cell}
+use Rattle.parity.specs.Stripe.{unitSize, depth, imageSize, unitIn, cell}
 
 abbrev pub shapeIn : Shelf → Shape
 shapeIn h = record { k = h .k; b = h .b; r = h .r; depth = depth h; size = unitSize h }
 
--- the stripe of an address and its index there, and the disks and the units of both in the image
+-- the stripe of an address and its index there, and the units of the address and of the parity in the image
 unfoldable pub standingIn : Shelf → ℕ → Standing
 standingIn h a =
     let s : ℕ = stripeOf (layoutIn h) a in
     let j : ℕ = jOf (layoutIn h) a in
-    let unit : ℕ = unitIn h s j in
-    let parity : ℕ = unitIn h s (h .k - 1) in
-    record { stripe = s; index = j; disk = diskAt h unit; unit = unit; «parity_disk» = diskAt h parity; parity = parity }
+    record { stripe = s; index = j; unit = unitIn h s j; parity = unitIn h s (h .k - 1) }
 
 -- the parity of stripe s becomes the exclusive-or of the data with x for data j
 unfoldable pub resealed : Shelf → List ℕ → ℕ → ℕ → List ℕ → List ℕ

@@ -157,13 +157,13 @@ returns-5 c =
 returns-6 : tie.Need-returns-6
 unfolding openedBy
 returns-6 c =
-    let d = c .before in
+    let d = c .before .before in
     let l = d .before .before in
     let f = l .before .before in
     let z = from-even f in
     let e = first z in
-    rw (shelf-read _ _ _ _ _ _ (start e .pre) (e .before .before .before .table-of .ensures) (r-counted (f .before .before .before)) (lambda-counted l))
-    (accepted _ _ _ _ _ _ (start e .pre) (below e) (once (z .before .before)) (zero z) (even f) (pairs-tested d ∙ not-false _ (c .if5 .left)))
+    rw (shelf-read _ _ _ _ _ _ (start e .pre) (e .before .before .before .table-of .ensures) (r-counted (f .before .before .before)) (lambda-counted l) (c .none .ensures))
+    (accepted _ _ _ _ _ _ (start e .pre) (below e) (once (z .before .before)) (zero z) (even f) (pairs-tested d ∙ not-false _ (c .before .if5 .left)))
 
 pub open-table-spec : {M : Type 1} → statement M
 open-table-spec =
@@ -189,4 +189,5 @@ open-table-spec =
     pairs-even-requires
     (λ c κs. search needs)
     returns-5
+    (λ c κs. search needs)
     returns-6)

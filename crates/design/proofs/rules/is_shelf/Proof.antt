@@ -44,9 +44,9 @@ returns-2 c =
 
 returns-3 : tie.Need-returns-3
 returns-3 c =
-    let t = c .before .before in
+    let t = c .before .before .before in
     let e = from-table t in
-    c .loss-below .ensures ∙ rw (shelf-parted (shelf (e .before)), limits-kept e, table-is t (not-false _ (c .before .if2 .left)))
+    c .loss-below .ensures ∙ rw (shelf-parted (shelf (e .before)), limits-kept e, table-is t (not-false _ (c .before .before .if2 .left)))
 
 pub is-shelf-spec : {M : Type 1} → statement M
 is-shelf-spec =

@@ -13,7 +13,7 @@ use Rattle.host.proofs.value.put.Tie as tie
 put-table-requires : tie.Need-put-table-requires
 put-table-requires c κs =
     let at-put-all = c .before .before .before .before .before in
-    let start = at-put-all .before .before .before .before .before in
+    let start = at-put-all .before .before .before .before .before .before in
     (omega (arith, at-put-all .put-all .kept), table-length (start .args .shelf) _ (start .good .1 .0))
 
 returns : tie.Need-returns
@@ -22,7 +22,7 @@ returns c =
     let at-put-table = c .before .before in
     let at-put-all = at-put-table .before .before .before .before .before .before in
     let at-loss-number = at-put-all .before .before .before in
-    let shelf = at-loss-number .before .before .args .shelf in
+    let shelf = at-loss-number .before .before .before .args .shelf in
     rw (← at-loss-number .loss-number .ensures)
     (at-put-table .put-table .ensures ∙ ap (λ (l : List ℕ). take 32 l ++ shelf .table) (at-put-all .put-all .ensures))
 

@@ -5,20 +5,19 @@ use mathlib.Core.Logic.{⊎-elim}
 use Prim.Native.Nat.{_+_, _-_, _*_, _≤_}
 use native.Mathlib.Omega.{arith}
 use lib.ListN.{length}
-use borrow.Author.Needs.{needs}
 use borrow.Rule.Slice.PartMut.{midOf}
 use Rattle.parity.proofs.Put.{part-unit, part-size}
-use Rattle.parity.proofs.Prepared.{shape-deep, number-asks}
+use Rattle.parity.proofs.Prepared.{number-asks}
 use Rattle.parity.proofs.StripeTurns.{Task, Begun, task-short, task-exact, task-inside, task-two, task-few, begun-few, begun-none, begun-size, begun-fits, begun-put, begun-skip, begun-all, data-unit, parity-unit}
 use Rattle.parity.proofs.large.store_stripe.Statement.{statement}
 use Rattle.parity.proofs.large.store_stripe.Tie as tie
 
 abbrev Inv-loop : tie.InvT-loop
-Inv-loop shelf image₀ s buffer table ranks shape size loss written₀ i₀ i-end image written i =
+Inv-loop shelf image₀ s buffer table ranks shape size written₀ i₀ i-end image written i =
     (i ≤ shelf .k - 1) × Begun shelf image₀ s buffer i image written
 
 abbrev μ-loop : tie.MeasureT-loop
-μ-loop shelf image₀ s buffer table ranks shape size loss written₀ i₀ i-end image written i = shelf .k - 1 - i
+μ-loop shelf image₀ s buffer table ranks shape size written₀ i₀ i-end image written i = shelf .k - 1 - i
 
 ranks-of-requires : tie.Need-ranks-of-requires Inv-loop μ-loop
 ranks-of-requires c κs = c .before .before .before .pre .stored .shelf
@@ -52,8 +51,8 @@ loop-holds c = (omega arith, begun-none (task (c .before)))
 number-requires : tie.Need-number-requires Inv-loop μ-loop
 number-requires c κs = let t = task (c .before .before .before .before .before) in number-asks (t .ready) (t .below) (omega arith)
 
-div-is-present : tie.Need-div-is-present Inv-loop μ-loop
-div-is-present c = shape-deep (task (c .before .before .before .before .before .before .before) .ready)
+is-present-requires : tie.Need-is-present-requires Inv-loop μ-loop
+is-present-requires c κs = start (c .before .before .before .before .before .before) .pre .stored .shelf
 
 -- data i lies within the buffer
 inside : (c : tie.In-loop Inv-loop μ-loop) → let U = c .before .before .before .shape-of .result .size in
@@ -61,13 +60,13 @@ inside : (c : tie.In-loop Inv-loop μ-loop) → let U = c .before .before .befor
 inside c = task-inside (task (c .before .before .before)) (c .before .loop .i) (c .loop-test .taken)
 
 mul-at : tie.Need-mul-at Inv-loop μ-loop
-mul-at c = let turn = c .before .before .before .before .before .before in omega (arith, inside turn, task-short (task (turn .before .before .before)))
+mul-at c = let turn = c .before .before .before .before .before in omega (arith, inside turn, task-short (task (turn .before .before .before)))
 
 add-store : tie.Need-add-store Inv-loop μ-loop
-add-store c = let turn = c .before .before .before .before .before .before .before in omega (arith, inside turn, task-short (task (turn .before .before .before)))
+add-store c = let turn = c .before .before .before .before .before .before in omega (arith, inside turn, task-short (task (turn .before .before .before)))
 
 part-store-end : tie.Need-part-store-end Inv-loop μ-loop
-part-store-end c = omega (arith, inside (c .before .before .before .before .before .before .before))
+part-store-end c = omega (arith, inside (c .before .before .before .before .before .before))
 
 -- the part that is lent has the size of a unit
 lent : (c : tie.In-loop Inv-loop μ-loop) → let U = c .before .before .before .shape-of .result .size in
@@ -76,21 +75,21 @@ lent c = part-size (c .before .before .before .shape-of .result .size) _ (c .bef
 
 store-requires : tie.Need-store-requires Inv-loop μ-loop
 store-requires c κs =
-    let turn = c .before .before .before .before .before .before .before .before in
-    rw (lent turn) (begun-fits (task (turn .before .before .before)) (turn .before .loop .inv .1) (omega arith) (c .before .before .before .before .before .number .ensures))
+    let turn = c .before .before .before .before .before .before .before in
+    rw (lent turn) (begun-fits (task (turn .before .before .before)) (turn .before .loop .inv .1) (omega arith) (c .before .before .before .before .number .ensures))
 
 add-written : tie.Need-add-written Inv-loop μ-loop
 add-written c =
-    let at = c .before .before .before .before .before .before .before .before .before .before .before .before in
+    let at = c .before .before .before .before .before .before .before .before .before .before .before in
     omega (arith, begun-few (at .loop .inv .1))
 
 loop-again : tie.Need-loop-again Inv-loop μ-loop
 loop-again c =
     let here = c .before in
-    let turn = here .before .before .before .before .before in
+    let turn = here .before .before .before .before in
     let t = task (turn .before .before .before) in
     let B = turn .before .loop .inv .1 in
-    let e = here .before .before .number .ensures in (
+    let e = here .before .number .ensures in (
       omega arith,
       ⊎-elim
           (λ w. rw (w .7) (begun-put t B (omega arith) e (sym (here .is-present .ensures) ∙ w .0 .taken)
@@ -114,58 +113,58 @@ sub-last c = omega (arith, task-two (task (c .before .before .before .before)))
 number-requires-2 : tie.Need-number-requires-2 Inv-loop μ-loop
 number-requires-2 c κs = let t = task (c .before .before .before .before .before .before) in number-asks (t .ready) (t .below) (omega (arith, task-two t))
 
-div-is-present-2 : tie.Need-div-is-present-2 Inv-loop μ-loop
-div-is-present-2 c = shape-deep (task (c .before .before .before .before .before .before .before .before) .ready)
+is-present-requires-2 : tie.Need-is-present-requires-2 Inv-loop μ-loop
+is-present-requires-2 c κs = start (c .before .before .before .before .before .before .before) .pre .stored .shelf
 
 seal-requires : tie.Need-seal-requires Inv-loop μ-loop
 seal-requires c κs =
-    let at = c .before .before .before .before .before .before .before .before .before in
+    let at = c .before .before .before .before .before .before .before .before in
     let t = task (at .before .before) in
-    (omega (arith, task-two t, task-few t), begun-fits t (at-end (c .before .before .before .before .before .before .before .before)) (omega (arith, task-two t)) (c .before .before .before .before .number2 .ensures), task-exact t)
+    (omega (arith, task-two t, task-few t), begun-fits t (at-end (c .before .before .before .before .before .before .before)) (omega (arith, task-two t)) (c .before .before .before .number2 .ensures), task-exact t)
 
 add-written-2 : tie.Need-add-written-2 Inv-loop μ-loop
 add-written-2 c =
-    let left = c .before .before .before .before .before .before .before .before .before .before .before in
+    let left = c .before .before .before .before .before .before .before .before .before .before in
     omega (arith, begun-few (at-end left))
 
 -- the parity is written too
-sealed : (c : tie.After-seal Inv-loop μ-loop) → let at = c .before .before .before .before .before .before .before .before .before .before in
+sealed : (c : tie.After-seal Inv-loop μ-loop) → let at = c .before .before .before .before .before .before .before .before .before in
     let a = start (at .before .before) .args in
     Begun (a .shelf) (a .image .now) (a .s) (a .buffer .now) (a .shelf .k - 1 + 1) (c .seal .last .0) (at .loop .written + 1)
 sealed c =
     let here = c .before .before .before in
-    let left = here .before .before .before .before .before .before in
+    let left = here .before .before .before .before .before in
     let t = task (left .before .before .before) in
-    begun-put t (at-end left) (omega (arith, task-two t)) (here .before .before .number2 .ensures) (sym (here .is-present2 .ensures) ∙ c .before .before .if2 .taken) (parity-unit t) (c .seal .ensures)
+    begun-put t (at-end left) (omega (arith, task-two t)) (here .before .number2 .ensures) (sym (here .is-present2 .ensures) ∙ c .before .before .if2 .taken) (parity-unit t) (c .seal .ensures)
 
 same-length : tie.Need-same-length Inv-loop μ-loop
 same-length c =
-    let at = c .before .before .before .before .before .before .before .before .before .before .before .before in
+    let at = c .before .before .before .before .before .before .before .before .before .before .before in
     begun-size (task (at .before .before)) (sealed (c .before .before))
 
 returns : tie.Need-returns Inv-loop μ-loop
 returns c =
-    let at = c .before .before .before .before .before .before .before .before .before .before .before .before in
+    let at = c .before .before .before .before .before .before .before .before .before .before .before in
     begun-all (task (at .before .before)) (sealed (c .before .before))
 
 -- the parity is left out
-unsealed : (c : tie.Else2 Inv-loop μ-loop) → let at = c .before .before .before .before .before .before .before .before in
+unsealed : (c : tie.Else2 Inv-loop μ-loop) → let at = c .before .before .before .before .before .before .before in
     let a = start (at .before .before) .args in
     Begun (a .shelf) (a .image .now) (a .s) (a .buffer .now) (a .shelf .k - 1 + 1) (at .loop .image) (at .loop .written)
 unsealed c =
     let here = c .before in
-    let left = here .before .before .before .before .before .before in
+    let left = here .before .before .before .before .before in
     let t = task (left .before .before .before) in
-    begun-skip t (at-end left) (omega (arith, task-two t)) (here .before .before .number2 .ensures) (sym (here .is-present2 .ensures) ∙ c .if2 .left)
+    begun-skip t (at-end left) (omega (arith, task-two t)) (here .before .number2 .ensures) (sym (here .is-present2 .ensures) ∙ c .if2 .left)
 
 same-length-2 : tie.Need-same-length-2 Inv-loop μ-loop
 same-length-2 c =
-    let at = c .before .before .before .before .before .before .before .before in
+    let at = c .before .before .before .before .before .before .before in
     begun-size (task (at .before .before)) (at .loop .inv .1)
 
 returns-2 : tie.Need-returns-2 Inv-loop μ-loop
 returns-2 c =
-    let at = c .before .before .before .before .before .before .before .before in
+    let at = c .before .before .before .before .before .before .before in
     begun-all (task (at .before .before)) (unsealed c)
 
 pub store-stripe-spec : {M : Type 1} → statement M
@@ -179,8 +178,7 @@ store-stripe-spec =
     sub-i-end
     loop-holds
     number-requires
-    div-is-present
-    (λ c κs. search needs)
+    is-present-requires
     mul-at
     add-store
     (λ c. omega arith)
@@ -193,8 +191,7 @@ store-stripe-spec =
     loop-again
     sub-last
     number-requires-2
-    div-is-present-2
-    (λ c κs. search needs)
+    is-present-requires-2
     seal-requires
     add-written-2
     same-length

@@ -14,7 +14,7 @@ use Rattle.parity.specs.declared.Shape.{Shape}
 use Rattle.parity.specs.Stripe.{depth}
 use Rattle.parity.proofs.Ready.{entries-fit}
 use Rattle.parity.proofs.Restores.{Restored}
-use Rattle.parity.proofs.LostUnits.{upTo, stripeFor, Prepared, rank-fits, stripe-lt, index-lt, offset-placed, restored-next, restored-start, restored-disk, none-restored}
+use Rattle.parity.proofs.LostUnits.{upTo, stripeFor, Prepared, rank-fits, stripe-lt, index-lt, offset-placed, restored-next, restored-start, restored-disk}
 use Rattle.parity.proofs.restoring.restore_disk.Statement.{statement}
 use Rattle.parity.proofs.restoring.restore_disk.Tie as tie
 
@@ -27,52 +27,52 @@ abbrev μ-loop : tie.MeasureT-loop
 -- ---- before the loop
 
 abbrev start : tie.After-shape-of Inv-loop μ-loop → tie.Start Inv-loop μ-loop
-start c = c .before .before .before .before .before .before .before .before .before .before
+start c = c .before .before .before .before .before .before .before .before .before
 
-abbrev told : tie.After-shape-of Inv-loop μ-loop → tie.After-loss Inv-loop μ-loop
-told c = c .before .before .before .before .before .before .before
+abbrev found : tie.After-shape-of Inv-loop μ-loop → tie.After-lost-disk Inv-loop μ-loop
+found c = c .before .before .before .before .before .before
 
-prepared : (c : tie.After-shape-of Inv-loop μ-loop) → Prepared (start c .args .shelf) (told c .loss .given .0 .0) (c .before .before .before .before .ranks-of .result) (c .before .entries .result) (c .shape-of .result)
+prepared : (c : tie.After-shape-of Inv-loop μ-loop) → Prepared (start c .args .shelf) (found c .lost-disk .result) (c .before .before .before .before .ranks-of .result) (c .before .entries .result) (c .shape-of .result)
 prepared c = record {
-  ok = start c .pre .shelf;
-  gone = told c .loss .given .1;
+  ok = start c .pre .0 .shelf;
+  gone = found c .lost-disk .ensures;
   ranked = c .before .before .before .before .ranks-of .ensures;
   listed = entries-at _ _ _ (c .before .entries .ensures) (entries-fit (start c .args .shelf) (start c .pre .shelf));
   shape-is = c .shape-of .ensures;
 }
 
-returns : tie.Need-returns Inv-loop μ-loop
-returns c = let s = c .before .before .before in none-restored (s .args .shelf) (s .pre .shelf) _ (s .pre .size) (c .enum-told .given .1)
+lost-disk-requires : tie.Need-lost-disk-requires Inv-loop μ-loop
+lost-disk-requires c κs = c .before .before .pre .1
 
 ranks-of-requires : tie.Need-ranks-of-requires Inv-loop μ-loop
-ranks-of-requires c κs = c .before .before .before .before .before .pre .shelf
+ranks-of-requires c κs = c .before .before .before .before .pre .0 .shelf
 
 mul-entries : tie.Need-mul-entries Inv-loop μ-loop
 mul-entries c =
-    let s = c .before .before .before .before .before .before .before .before in
-    omega (arith, entries-fit (s .args .shelf) (s .pre .shelf))
+    let s = c .before .before .before .before .before .before .before in
+    omega (arith, entries-fit (s .args .shelf) (s .pre .0 .shelf))
 
 entries-requires : tie.Need-entries-requires Inv-loop μ-loop
 entries-requires c κs =
-    let s = c .before .before .before .before .before .before .before .before in
-    entries-fit (s .args .shelf) (s .pre .shelf)
+    let s = c .before .before .before .before .before .before .before in
+    entries-fit (s .args .shelf) (s .pre .0 .shelf)
 
 shape-of-requires : tie.Need-shape-of-requires Inv-loop μ-loop
-shape-of-requires c κs = c .before .before .before .before .before .before .before .before .before .pre .shelf
+shape-of-requires c κs = c .before .before .before .before .before .before .before .before .pre .0 .shelf
 
 loop-holds : tie.Need-loop-holds Inv-loop μ-loop
-loop-holds c = (omega arith, restored-start (start c .args .shelf) (start c .pre .shelf) _ (start c .pre .size))
+loop-holds c = (omega arith, restored-start (start c .args .shelf) (start c .pre .0 .shelf) _ (start c .pre .0 .size))
 
 -- ---- after the loop: the units at all offsets are restored
 
 same-length : tie.Need-same-length Inv-loop μ-loop
-same-length c = c .before .loop .inv .1 .len ∙ sym (start (c .before .before) .pre .size)
+same-length c = c .before .loop .inv .1 .len ∙ sym (start (c .before .before) .pre .0 .size)
 
-returns-2 : tie.Need-returns-2 Inv-loop μ-loop
-returns-2 c =
+returns : tie.Need-returns Inv-loop μ-loop
+returns c =
     let s = start (c .before .before) in
     let deep : c .before .before .shape-of .result .depth ≡ depth (s .args .shelf) = ap (λ (x : Shape). x .depth) (c .before .before .shape-of .ensures) in
-    restored-disk (s .args .shelf) (s .pre .shelf) (s .args .image .now) (s .pre .size) (c .before .loop .inv .1) (omega arith)
+    restored-disk (s .args .shelf) (s .pre .0 .shelf) (s .args .image .now) (s .pre .0 .size) (c .before .loop .inv .1) (omega arith)
 
 -- ---- at offset o
 
@@ -80,7 +80,7 @@ abbrev shelf : tie.In-loop Inv-loop μ-loop → Shelf
 shelf c = start (c .before .before) .args .shelf
 
 even : (c : tie.In-loop Inv-loop μ-loop) → Even (layoutIn (shelf c))
-even c = even-shelf (shelf c) (start (c .before .before) .pre .shelf)
+even c = even-shelf (shelf c) (start (c .before .before) .pre .0 .shelf)
 
 -- where its entry stands in the list
 listed-lt : (c : tie.In-loop Inv-loop μ-loop) → c .before .loop .o % shelf c .r < 2048
@@ -151,7 +151,7 @@ loop-again c =
     let P = prepared (turn .before .before) in
     let o = turn .before .loop .o in (
       omega arith,
-      restored-next (shelf turn) P o (turn .loop-test .taken) (s .args .image .now) (turn .before .loop .image) _ (s .pre .size) (turn .before .loop .inv .1) (i .index-of .ensures) (c .before .before .restore .ensures),
+      restored-next (shelf turn) P o (turn .loop-test .taken) (s .args .image .now) (turn .before .loop .image) _ (s .pre .0 .size) (turn .before .loop .inv .1) (i .index-of .ensures) (c .before .before .restore .ensures),
     )
 
 pub restore-disk-spec : {M : Type 1} → statement M
@@ -160,9 +160,7 @@ restore-disk-spec =
     (tie.spec
     Inv-loop
     μ-loop
-    (λ c. search needs)
-    (λ c. search needs)
-    returns
+    lost-disk-requires
     ranks-of-requires
     mul-entries
     entries-requires
@@ -186,4 +184,4 @@ restore-disk-spec =
     (λ c. omega arith)
     loop-again
     same-length
-    returns-2)
+    returns)

@@ -1,17 +1,18 @@
 -- `parity::rules::of_place` meets its contract: the rules of an image, then rule after rule. Assumes nothing.
-use mathlib.Core.Path.{_≡_, refl, ap, _∙_}
+use mathlib.Core.Path.{_≡_, refl, sym, ap, _∙_}
+use mathlib.Core.Bool.{true}
 use mathlib.Core.List.{[], _∷_, _++_}
-use Prim.Native.Nat.{_+_, _*_}
+use Prim.Native.Nat.{_+_, _*_, _<_}
 use lib.Dec.{ltb}
 use borrow.Author.Needs.{needs}
 use borrow.Author.Tests.{ltb-true}
 use Rattle.design.specs.Refusals.{firstBroken}
+use Rattle.design.specs.Shelf.{isShelf}
 use Rattle.design.proofs.Counting.{both}
-use Rattle.parity.specs.Stripe.{depth}
+use Rattle.parity.specs.Stripe.{depth, present}
 use Rattle.parity.specs.Calls.{placeRules, placeRule, presentRule}
 use Rattle.parity.specs.inner.Judged.{imageRules}
 use Rattle.parity.proofs.Accepted.{rule-kept}
-use Rattle.parity.proofs.Ready.{present-place}
 use Rattle.parity.proofs.Verdicts.{shelf-passed, also-rule, two-as-one, refused-already}
 use Rattle.parity.proofs.rules.of_place.Statement.{statement}
 use Rattle.parity.proofs.rules.of_place.Tie as tie
@@ -34,15 +35,35 @@ ranged c =
     let second = there .also .ensures ∙ also-rule _ (imageRules _ _) judged (λ _. refl) in
     c .also2 .ensures ∙ also-rule _ (imageRules _ _ ++ _ ∷ []) second (λ _. ap (ltb _) (c .before .offsets .ensures)) ∙ two-as-one (imageRules _ _) _ _ _
 
--- whether the unit is present is asked of its disk
+-- the place is one of the shelf
+within : (c : tie.After-enum-told3) → let args = c .before .before .before .before .before .before .before .before .before .args in
+    (args .disk < args .shelf .v) × (args .offset < depth (args .shelf))
+within c =
+    let args = c .before .before .before .before .before .before .before .before .before .args in
+    let kept = rule-kept _ _ .0 (rule-kept _ _ .0 (rule-kept _ _ .0 (sym (ranged (c .before .before)) ∙ c .enum-told3 .given .1) .1) .1) .0 in
+    let both-kept = both (ltb (args .disk) (args .shelf .v)) (ltb (args .offset) (depth (args .shelf))) kept in
+    (ltb-true _ _ (both-kept .0), ltb-true _ _ (both-kept .1))
+
 returns-2 : tie.Need-returns-2
 unfolding placeRules
 returns-2 c =
     let args = c .before .before .before .before .before .before .before .before .before .args in
+    refused-already _ (imageRules _ _ ++ placeRule (args .shelf) (args .disk) (args .offset) ∷ []) (ranged (c .before .before)) (c .enum-told4 .given .1)
+
+passed : (c : tie.After-enum-told3) → isShelf (c .before .before .before .before .before .before .before .before .before .args .shelf) ≡ true
+passed c =
+    let told = c .before .before .before .before .before .before in
+    shelf-passed _ _ (told .before .before .of-image .ensures) (told .enum-told .given .1)
+
+-- whether the unit is present is asked once the place is known to be one
+returns-3 : tie.Need-returns-3
+unfolding placeRules
+returns-3 c =
+    let at = c .before .before .before .before .before in
+    let args = at .before .before .before .before .before .before .before .args in
     c .also3 .ensures
-    ∙ also-rule (presentRule (args .shelf) (args .disk * depth (args .shelf) + args .offset)) (imageRules _ _ ++ placeRule (args .shelf) (args .disk) (args .offset) ∷ []) (ranged (c .before .before)) (λ a.
-    let kept = rule-kept _ _ .0 (rule-kept _ _ .0 (rule-kept _ _ .0 a .1) .1) .0 in
-    c .before .is-present .ensures ∙ present-place _ _ _ (ltb-true _ _ (both (ltb (args .disk) (args .shelf .v)) _ kept .1)))
+    ∙ also-rule (presentRule (args .shelf) (args .disk * depth (args .shelf) + args .offset)) (imageRules _ _ ++ placeRule (args .shelf) (args .disk) (args .offset) ∷ []) (ranged at) (λ a.
+    c .before .is-present .ensures ∙ ap (present (args .shelf)) (c .before .before .unit-at .ensures))
 
 pub of-place-spec : {M : Type 1} → statement M
 of-place-spec =
@@ -55,6 +76,10 @@ of-place-spec =
     (λ c κs. search needs)
     offsets-requires
     (λ c κs. search needs)
+    (λ c. search needs)
+    (λ c. search needs)
+    returns-2
+    (λ c κs. (passed c, within c))
+    (λ c κs. passed (c .before))
     (λ c κs. search needs)
-    (λ c κs. search needs)
-    returns-2)
+    returns-3)

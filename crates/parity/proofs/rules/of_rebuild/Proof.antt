@@ -10,7 +10,7 @@ use Rattle.parity.proofs.rules.of_rebuild.Tie as tie
 
 returns : tie.Need-returns
 unfolding rebuildRules
-returns c = c .also .ensures ∙ also-rule _ (imageRules _ _) (c .before .before .of-image .ensures) (λ _. ap not (c .before .is-whole .ensures))
+returns c = c .also .ensures ∙ also-rule _ (imageRules _ _) (c .before .before .before .of-image .ensures) (λ _. ap not (c .before .is-whole .ensures))
 
 pub of-rebuild-spec : {M : Type 1} → statement M
 of-rebuild-spec = tie.close (tie.spec (λ c κs. search needs) (λ c κs. search needs) (λ c κs. search needs) returns)

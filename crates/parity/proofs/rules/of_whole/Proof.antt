@@ -9,7 +9,7 @@ use Rattle.parity.proofs.rules.of_whole.Tie as tie
 
 returns : tie.Need-returns
 unfolding wholeRules
-returns c = c .also .ensures ∙ also-rule _ (imageRules _ _) (c .before .before .of-image .ensures) (λ _. c .before .is-whole .ensures)
+returns c = c .also .ensures ∙ also-rule _ (imageRules _ _) (c .before .before .before .of-image .ensures) (λ _. c .before .is-whole .ensures)
 
 pub of-whole-spec : {M : Type 1} → statement M
 of-whole-spec = tie.close (tie.spec (λ c κs. search needs) (λ c κs. search needs) (λ c κs. search needs) returns)

@@ -9,37 +9,30 @@ use Rattle.parity.specs.Units.{unitAt}
 use Rattle.parity.specs.Stripe.{unitSize, units}
 use Rattle.parity.proofs.Image.{unit-fits}
 use Rattle.parity.proofs.Put.{part-unit}
-use Rattle.parity.proofs.Sized.{units-most, image-size-most}
+use Rattle.parity.proofs.Sized.{image-size-most}
 use Rattle.parity.proofs.showing.part.Statement.{statement}
 use Rattle.parity.proofs.showing.part.Tie as tie
 
 -- the place is a unit of the image
-here : (c : tie.After-offsets) → c .before .before .before .args .disk * c .offsets .result + c .before .before .before .args .offset < units (c .before .before .before .args .shelf)
-here c = let s = c .before .before .before in rw (c .offsets .ensures) (digits-lt (s .pre .1 .0) (s .pre .1 .1))
+here : (c : tie.After-unit-at) → c .unit-at .result < units (c .before .before .before .args .shelf)
+here c = let s = c .before .before .before in rw (c .unit-at .ensures) (digits-lt (s .pre .1 .0) (s .pre .1 .1))
 
-fits : (c : tie.After-offsets)
-    → (c .before .before .before .args .disk * c .offsets .result + c .before .before .before .args .offset) * c .before .unit-size .result + c .before .unit-size .result ≤ length (c .before .before .before .args .image .now)
+fits : (c : tie.After-unit-at) → c .unit-at .result * c .before .unit-size .result + c .before .unit-size .result ≤ length (c .before .before .before .args .image .now)
 fits c =
     let s = c .before .before .before in
     rw (c .before .unit-size .ensures) (unit-fits (unitSize (s .args .shelf)) (units (s .args .shelf)) (s .args .image .now) (s .pre .0 .size) _ (here c))
 
-most : (c : tie.After-offsets) → length (c .before .before .before .args .image .now) ≤ 2 ^ 45
+most : (c : tie.After-unit-at) → length (c .before .before .before .args .image .now) ≤ 2 ^ 45
 most c = let s = c .before .before .before in omega (arith, s .pre .0 .size, image-size-most _ (s .pre .0 .shelf))
 
 unit-size-requires : tie.Need-unit-size-requires
 unit-size-requires c κs = c .before .pre .0 .shelf
 
-offsets-requires : tie.Need-offsets-requires
-offsets-requires c κs = c .before .before .pre .0 .shelf
+unit-at-requires : tie.Need-unit-at-requires
+unit-at-requires c κs = let s = c .before .before in (s .pre .0 .shelf, s .pre .1)
 
 mul-at : tie.Need-mul-at
-mul-at c = omega (arith, here c, units-most _ (c .before .before .before .pre .0 .shelf))
-
-add-at : tie.Need-add-at
-add-at c = omega (arith, here c, units-most _ (c .before .before .before .pre .0 .shelf))
-
-mul-at-2 : tie.Need-mul-at-2
-mul-at-2 c = omega (arith, fits c, most c)
+mul-at c = omega (arith, fits c, most c)
 
 add-result : tie.Need-add-result
 add-result c = omega (arith, fits c, most c)
@@ -50,18 +43,16 @@ part-result-end c = omega (arith, fits c)
 returns : tie.Need-returns
 returns c =
     let s = c .before .before .before .before in
-    part-unit (c .before .before .unit-size .result) (s .args .image .now) (s .args .disk * c .before .offsets .result + s .args .offset)
-    ∙ ap₂ (λ (U o : ℕ). unitAt U (s .args .image .now) (s .args .disk * o + s .args .offset)) (c .before .before .unit-size .ensures) (c .before .offsets .ensures)
+    part-unit (c .before .before .unit-size .result) (s .args .image .now) (c .before .unit-at .result)
+    ∙ ap₂ (λ (U n : ℕ). unitAt U (s .args .image .now) n) (c .before .before .unit-size .ensures) (c .before .unit-at .ensures)
 
 pub part-spec : {M : Type 1} → statement M
 part-spec =
     tie.close
     (tie.spec
     unit-size-requires
-    offsets-requires
+    unit-at-requires
     mul-at
-    add-at
-    mul-at-2
     add-result
     (λ c. search needs)
     (λ c. search needs)

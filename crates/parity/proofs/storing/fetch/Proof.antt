@@ -13,6 +13,9 @@ start c = c .before .before .before
 standing-of-requires : tie.Need-standing-of-requires
 standing-of-requires c κs = let s = c .before .before in (s .pre .stored .shelf, s .pre .address)
 
+is-present-requires : tie.Need-is-present-requires
+is-present-requires c κs = start c .pre .stored .shelf
+
 load-requires : tie.Need-load-requires
 load-requires c κs = let at = c .before .before .before in unit-within (start at .pre) (at .standing-of .ensures)
 
@@ -39,7 +42,7 @@ fetch-spec =
     tie.close
     (tie.spec
     standing-of-requires
-    (λ c κs. search needs)
+    is-present-requires
     load-requires
     (λ c. search needs)
     returns

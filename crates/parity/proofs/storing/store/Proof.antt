@@ -14,6 +14,9 @@ start c = c .before .before .before
 standing-of-requires : tie.Need-standing-of-requires
 standing-of-requires c κs = let s = c .before .before in (s .pre .stored .shelf, s .pre .address)
 
+is-present-requires : tie.Need-is-present-requires
+is-present-requires c κs = start c .pre .stored .shelf
+
 store-requires : tie.Need-store-requires
 store-requires c κs = let at = c .before .before .before in unit-within (start at .pre) (at .standing-of .ensures)
 
@@ -23,11 +26,14 @@ returns c =
     let at = lost .before .before in
     write-parity-lost (start at .pre) (at .standing-of .ensures) (sym (lost .before .is-present .ensures) ∙ not-true _ (lost .if1 .taken)) (c .before .before .store .ensures)
 
+is-present-requires-2 : tie.Need-is-present-requires-2
+is-present-requires-2 c κs = start (c .before .before) .pre .stored .shelf
+
 store-lost-requires : tie.Need-store-lost-requires
 store-lost-requires c κs = let at = c .before .before .before .before .before in data-call (start at .pre) (at .standing-of .ensures)
 
-sub-t17 : tie.Need-sub-t17
-sub-t17 c = omega (arith, call-data-lt (start (c .before .before .before .before .before .before .before .before .before) .pre))
+sub-t16 : tie.Need-sub-t16
+sub-t16 c = omega (arith, call-data-lt (start (c .before .before .before .before .before .before .before .before .before) .pre))
 
 returns-2 : tie.Need-returns-2
 returns-2 c =
@@ -57,13 +63,13 @@ store-spec =
     tie.close
     (tie.spec
     standing-of-requires
-    (λ c κs. search needs)
+    is-present-requires
     store-requires
     (λ c. search needs)
     returns
-    (λ c κs. search needs)
+    is-present-requires-2
     store-lost-requires
-    sub-t17
+    sub-t16
     (λ c. search needs)
     returns-2
     renew-requires
