@@ -37,7 +37,7 @@ prepared c = record {
   ok = start c .pre .0 .shelf;
   gone = found c .lost-disk .ensures;
   ranked = c .before .before .before .before .ranks-of .ensures;
-  listed = entries-at _ _ _ (c .before .entries .ensures) (entries-fit (start c .args .shelf) (start c .pre .shelf));
+  listed = entries-at _ _ _ (c .before .entries .ensures) (entries-fit (start c .args .shelf) (start c .pre .0 .shelf));
   shape-is = c .shape-of .ensures;
 }
 
