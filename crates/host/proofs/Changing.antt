@@ -11,6 +11,7 @@ use Rattle.design.specs.Shelf.{isShelf}
 use Rattle.design.proofs.Counting.{length-listFrom}
 use Rattle.parity.specs.declared.Losing.{Losing}
 use Rattle.parity.specs.declared.Rebuilding.{Rebuilding}
+use Rattle.parity.specs.Stripe.{depth}
 use Rattle.parity.specs.Calls.{by, lost, rebuilding, Rebuilt, readFrom}
 use Rattle.parity.proofs.Accepted.{lose-accepted, rebuild-accepted}
 
@@ -20,7 +21,7 @@ losing-shelf h d is e = lose-accepted h d .0 (ap (λ (x : Losing). x .verdict) (
 
 count-length : (v : Verdict) (h : Shelf) → length (rebuilding v h .counts) ≡ 64
 unfolding by
-count-length Accepted h = length-listFrom 0 64 (readFrom h)
+count-length Accepted h = length-listFrom 0 64 (readFrom h 0 (depth h))
 count-length (Refused x) h = length-replicate {A = ℕ} 64 0
 
 module _ (h : Shelf) (image : List ℕ) {answer : Rebuilding} {image′ : List ℕ} (kept : Rebuilt h image answer image′) where

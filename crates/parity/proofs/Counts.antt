@@ -20,11 +20,12 @@ use Rattle.placement.proofs.Held.{held-at}
 use Rattle.placement.proofs.Row.{disk-lt}
 use Rattle.placement.proofs.Shares.{reads-shared, pair-stripes}
 use Rattle.parity.specs.Stripe.{depth, units, unitIn, diskAt, stripeHere, present}
-use Rattle.parity.specs.Calls.{onDisk, readFrom, stripeWrites}
+use Rattle.parity.specs.Calls.{restores, onDisk, readFrom, stripeWrites}
 use Rattle.parity.proofs.Cases.{cases}
 use Rattle.parity.proofs.Counting.{count-rest}
 use Rattle.parity.proofs.Present.{whole-present, present-is}
 use Rattle.parity.proofs.Home.{one-absent}
+use Rattle.parity.proofs.Rebuilt.{restores-all}
 use Rattle.parity.proofs.UnitCounts.{disk-count}
 use Rattle.parity.proofs.Meets.{lost-below, on-disk-unit, unit-on-disk, lost-exactly}
 
@@ -43,12 +44,12 @@ module _ (h : Shelf) (ok : isShelf h ≡ true) where
     hd = lost-below h ok d lost
 
     -- what is restored stands on the lost disk, and its stripe is that of its offset there
-    restored-at : (e n : ℕ) → (not (present h n) && onDisk h (stripeHere h n) e) ≡ (eqb (diskAt h n) d && onDisk h (stripeAt (layoutIn h) d (n % depth h)) e)
+    restored-at : (e n : ℕ) → (restores h 0 (depth h) n && onDisk h (stripeHere h n) e) ≡ (eqb (diskAt h n) d && onDisk h (stripeAt (layoutIn h) d (n % depth h)) e)
     unfolding stripeHere
-    restored-at e n = rw (present-is h d lost n) (cases (eqb (diskAt h n) d) (λ p. rw (p, eqb-true (diskAt h n) d p)) (λ p. rw p))
+    restored-at e n = rw (restores-all h ok n, present-is h d lost n) (cases (eqb (diskAt h n) d) (λ p. rw (p, eqb-true (diskAt h n) d p)) (λ p. rw p))
 
     -- "the number of stripes shared with the lost disk, counted from the placement rule"
-    pub shared-stripes : (e : ℕ) → e ≢ d → readFrom h e ≡ count (λ s. onDisk h s d && onDisk h s e) (stripes (layoutIn h))
+    pub shared-stripes : (e : ℕ) → e ≢ d → readFrom h 0 (depth h) e ≡ count (λ s. onDisk h s d && onDisk h s e) (stripes (layoutIn h))
     unfolding readFrom
     shared-stripes e ne =
         rw (lost-alone (h .loss) d lost e, ne-eqb e d ne)
@@ -56,25 +57,25 @@ module _ (h : Shelf) (ok : isShelf h ≡ true) where
         ∙ disk-count h ok (λ o. onDisk h (stripeAt (layoutIn h) d o) e) d hd
         ∙ reads-shared (layoutIn h) (even-shelf h ok) d e hd)
 
-    pub read-from-other : (e : ℕ) → e < h .v → e ≢ d → readFrom h e ≡ h .T * h .k * h .lambda
+    pub read-from-other : (e : ℕ) → e < h .v → e ≢ d → readFrom h 0 (depth h) e ≡ h .T * h .k * h .lambda
     read-from-other e he ne = shared-stripes e ne ∙ pair-stripes h ok d e hd he (λ x. ne (sym x))
 
-    pub read-from-lost : readFrom h d ≡ 0
+    pub read-from-lost : readFrom h 0 (depth h) d ≡ 0
     unfolding readFrom
     read-from-lost = rw lost
 
-    pub read-from-outside : (e : ℕ) → h .v ≤ e → readFrom h e ≡ 0
+    pub read-from-outside : (e : ℕ) → h .v ≤ e → readFrom h 0 (depth h) e ≡ 0
     read-from-outside e l =
         let ne : e ≢ d = omega (arith, hd) in
         shared-stripes e ne ∙ count-none _ (stripes (layoutIn h)) (λ s hs. rw (none-on s e l) (and-false (onDisk h s d)))
 
     -- in one statement
-    pub read-from-is : (e : ℕ) → readFrom h e ≡ cond (ltb e (h .v) && not (eqb e d)) (h .T * h .k * h .lambda) 0
+    pub read-from-is : (e : ℕ) → readFrom h 0 (depth h) e ≡ cond (ltb e (h .v) && not (eqb e d)) (h .T * h .k * h .lambda) 0
     read-from-is e = cases (ltb e (h .v)) inside (λ t. rw t (read-from-outside e (ltb-false e (h .v) t)))
       where
-        inside : ltb e (h .v) ≡ true → readFrom h e ≡ cond (ltb e (h .v) && not (eqb e d)) (h .T * h .k * h .lambda) 0
+        inside : ltb e (h .v) ≡ true → readFrom h 0 (depth h) e ≡ cond (ltb e (h .v) && not (eqb e d)) (h .T * h .k * h .lambda) 0
         inside t = rw t (cases (eqb e d)
-            (λ p. rw p (ap (readFrom h) (eqb-true e d p) ∙ read-from-lost))
+            (λ p. rw p (ap (readFrom h 0 (depth h)) (eqb-true e d p) ∙ read-from-lost))
             (λ p. rw p (read-from-other e (ltb-true e (h .v) t) (eqb-false e d p))))
 
 -- ---- stripe write

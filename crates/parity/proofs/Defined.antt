@@ -16,7 +16,7 @@ use Rattle.design.proofs.Counting.{both, both-of}
 use Rattle.placement.specs.Layout.{layoutIn, stripes}
 use Rattle.parity.specs.Units.{unitAt, xorU}
 use Rattle.parity.specs.Stripe.{unitSize, units, imageSize, unitIn, diskAt, stripeHere, indexHere, present, cell}
-use Rattle.parity.specs.Calls.{onDisk, fetched, newParity, unitWritten, stripeWritten, rebuiltImage}
+use Rattle.parity.specs.Calls.{onDisk, fetched, newParity, unitWritten, stripeWritten, restored, rebuiltImage}
 use Rattle.parity.proofs.Cases.{cases, put-ext}
 use Rattle.parity.proofs.Xor.{xorSum-ext}
 use Rattle.parity.proofs.Patch.{patch-on}
@@ -24,7 +24,7 @@ use Rattle.parity.proofs.Home.{unit-lt, stripe-home, index-home, stripe
 use Rattle.parity.proofs.Present.{present-is}
 use Rattle.parity.proofs.Meets.{unit-on-disk, lost-exactly}
 use Rattle.parity.proofs.Cells.{others-ext}
-use Rattle.parity.proofs.Rebuilt.{restored-sized}
+use Rattle.parity.proofs.Rebuilt.{restores-all, restored-sized}
 use Rattle.parity.proofs.Written.{unit-written-sized, stripe-written-sized}
 use Rattle.parity.proofs.Stores.{unit-is}
 use Rattle.parity.proofs.Sets.{readSet, dataOrParity, writeReadSet, writeSet, stripeSet, rebuildSet}
@@ -106,11 +106,11 @@ module _ (h : Shelf) (ok : isShelf h ≡ true) (a b : List ℕ) where
 
   pub rebuild-defined : (d : ℕ) → isLost h d ≡ true → length a ≡ imageSize h → length b ≡ imageSize h → ((e : ℕ) → Agree h (rebuildSet h d e) a b)
       → Agree h (λ n. not (present h n)) (rebuiltImage h a) (rebuiltImage h b)
-  unfolding rebuiltImage rebuildSet
+  unfolding restored rebuildSet
   rebuild-defined d lost la lb same n hn t =
-      patch-on h a la _ _ (restored-sized h ok a la _) n hn t
+      patch-on h a la _ _ (restored-sized h ok a la _) n hn (restores-all h ok n ∙ t)
       ∙ others-ext h a b (stripeHere h n) (indexHere h n) other
-      ∙ sym (patch-on h b lb _ _ (restored-sized h ok b lb _) n hn t)
+      ∙ sym (patch-on h b lb _ _ (restored-sized h ok b lb _) n hn (restores-all h ok n ∙ t))
     where
       s : ℕ
       s = stripeHere h n

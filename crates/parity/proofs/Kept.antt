@@ -1,5 +1,5 @@
 -- Every unit that a call does not write keeps its bytes. Assumes nothing.
-use mathlib.Core.Path.{_≡_}
+use mathlib.Core.Path.{_≡_, _∙_}
 use mathlib.Core.Bool.{Bool, true, false, not}
 use mathlib.Core.List.{List}
 use Prim.Native.Nat.{ℕ, _-_, _*_, _<_}
@@ -8,10 +8,10 @@ use Rattle.design.specs.declared.Shelf.{Shelf}
 use Rattle.design.specs.Shelf.{isShelf}
 use Rattle.placement.specs.Layout.{layoutIn, stripes}
 use Rattle.parity.specs.Units.{unitAt}
-use Rattle.parity.specs.Stripe.{unitSize, units, imageSize, present}
-use Rattle.parity.specs.Calls.{unitWritten, stripeWritten, rebuiltImage}
+use Rattle.parity.specs.Stripe.{unitSize, depth, units, imageSize, present}
+use Rattle.parity.specs.Calls.{unitWritten, stripeWritten, restores, restored, rebuiltImage}
 use Rattle.parity.proofs.Patch.{patch-off}
-use Rattle.parity.proofs.Rebuilt.{restored-sized, rebuilt-length}
+use Rattle.parity.proofs.Rebuilt.{restores-all, restored-sized, restored-length}
 use Rattle.parity.proofs.Written.{unit-written-sized, unit-written-length, stripe-written-sized, stripe-written-length}
 use Rattle.parity.proofs.Sets.{writeSet, stripeSet}
 
@@ -36,6 +36,11 @@ module _ (h : Shelf) (ok : isShelf h ≡ true) (image : List ℕ) (len : length 
     unit = patch-off h image len _ _ (stripe-written-sized h ok image len s buffer hb _);
   }
 
+  pub restore-kept : (from to : ℕ) → Kept h (restores h from to) image (restored h image from to)
+  unfolding restored
+  restore-kept from to = record { size = restored-length h ok image len from to; unit = patch-off h image len _ _ (restored-sized h ok image len _) }
+
   pub rebuild-kept : Kept h (λ n. not (present h n)) image (rebuiltImage h image)
-  unfolding rebuiltImage
-  rebuild-kept = record { size = rebuilt-length h ok image len; unit = patch-off h image len _ _ (restored-sized h ok image len _) }
+  rebuild-kept =
+      let K = restore-kept 0 (depth h) in
+      record { size = K .size; unit = λ n hn e. K .unit n hn (restores-all h ok n ∙ e) }

@@ -1,15 +1,15 @@
 -- The units of the lost disk, offset after offset: the stripe and the unit of it that the code finds at an offset, and that a rebuild
 -- may restore them in this order. Assumes nothing.
 use mathlib.Core.Path.{_≡_, sym, ap, ap₂, _∙_}
-use mathlib.Core.Bool.{Bool, true, false, not, cond}
+use mathlib.Core.Bool.{true, false, not, cond}
 use mathlib.Core.List.{List}
 use Prim.Native.Nat.{ℕ, _+_, _-_, _*_, _/_, _%_, _≤_, _<_}
-use native.Mathlib.Nat.{mod-lt, div-add-mod'}
+use native.Mathlib.Nat.{div-add-mod'}
 use native.Mathlib.Omega.{arith}
 use lib.Arith.{digits-lt, digits-div, digits-mod}
-use lib.Dec.{ltb, eqb}
+use lib.Dec.{leb, ltb, eqb}
 use lib.ListN.{length, getD}
-use borrow.Author.Tests.{lt-ltb, le-ltb, eq-eqb, eqb-true, not-false}
+use borrow.Author.Tests.{le-ltb, le-leb, leb-true, eq-eqb, eqb-true, not-false}
 use Rattle.design.specs.declared.Shelf.{Shelf}
 use Rattle.design.specs.Count.{count, nth}
 use Rattle.design.specs.Loss.{isLost}
@@ -27,18 +27,14 @@ use Rattle.parity.specs.Stripe.{unitSize, depth, units, imageSize, unitI
 use Rattle.parity.specs.inner.Stores.{Ranked, putUnit}
 use Rattle.parity.specs.inner.Sums.{Placed, numberBy, sumWith}
 use Rattle.parity.specs.inner.Shapes.{shapeIn}
-use Rattle.parity.specs.Calls.{rebuiltImage}
+use Rattle.parity.specs.Calls.{between}
 use Rattle.parity.proofs.Cases.{cases, below-next}
 use Rattle.parity.proofs.Ready.{entries-fit}
 use Rattle.parity.proofs.Present.{present-is}
-use Rattle.parity.proofs.Home.{depth-pos, stripeHere-lt, indexHere-lt, unit-home}
+use Rattle.parity.proofs.Home.{stripeHere-lt, indexHere-lt, unit-home}
 use Rattle.parity.proofs.Places.{number-unit, shelf-placed, sum-others}
 use Rattle.parity.proofs.Meets.{lost-below}
-use Rattle.parity.proofs.Restores.{Restored, restored-none, restored-test, restored-put, restored-all}
-
--- the units at the first o offsets of the disks
-abbrev pub upTo : Shelf → ℕ → ℕ → Bool
-upTo h o n = ltb (n % depth h) o
+use Rattle.parity.proofs.Restores.{Restored, restored-none, restored-test, restored-put}
 
 -- the unit at offset o of disk d
 abbrev unitOn : Shelf → ℕ → ℕ → ℕ
@@ -85,10 +81,7 @@ module _ (h : Shelf) {lost : ℕ} {ranks entries : List ℕ} {shape : Shape} (P 
   entry-is : getD entries (o % h .r) 0 ≡ nth (isDisk (h .table) lost) (h .b * h .k) (o % h .r)
   entry-is = P .listed (o % h .r) rank-listed
 
-  module _ (below : o < shape .depth) where
-    ho : o < depth h
-    ho = rw (P .shape-is) at below
-
+  module _ (ho : o < depth h) where
     -- ---- the unit at this offset
 
     unit-lt : unitOn h lost o < units h
@@ -111,8 +104,11 @@ module _ (h : Shelf) {lost : ℕ} {ranks entries : List ℕ} {shape : Shape} (P 
         (λ t. eq-eqb _ o (ap (λ (m : ℕ). m % depth h) (eqb-true n (unitOn h lost o) t) ∙ unit-offset))
         (λ t. eq-eqb n _ (sym (div-add-mod' n (depth h)) ∙ ap₂ (unitOn h) on-lost (eqb-true (n % depth h) o t)))
 
-    up-to-next : (n : ℕ) → present h n ≡ false → put (upTo h o) (unitOn h lost o) true n ≡ upTo h (o + 1) n
-    up-to-next n e = rw (same-unit n e, ← below-next (n % depth h) o) (cases (eqb (n % depth h) o) (λ t. rw t) (λ t. rw t))
+    between-next : {from : ℕ} → from ≤ o → (n : ℕ) → present h n ≡ false → put (between h from o) (unitOn h lost o) true n ≡ between h from (o + 1) n
+    between-next {from} past n e =
+        rw (same-unit n e, ← below-next (n % depth h) o) (cases (eqb (n % depth h) o)
+        (λ t. rw (t, le-leb from (n % depth h) (omega (arith, eqb-true (n % depth h) o t))))
+        (λ t. rw t))
 
     -- ---- its stripe, and which unit of it this is
 
@@ -164,21 +160,20 @@ module _ (h : Shelf) {lost : ℕ} {ranks entries : List ℕ} {shape : Shape} (P 
         ∙ ap₂ (others h now) (sym stripe-is) (sym index-is)
 
     -- the unit at this offset is restored too
-    pub restored-next : (image now after : List ℕ) {i : ℕ} → length image ≡ imageSize h → Restored h image (upTo h o) now
+    pub restored-next : (image now after : List ℕ) {from i : ℕ} → length image ≡ imageSize h → from ≤ o → Restored h image (between h from o) now
         → i ≡ indexFor h entries o
         → after ≡ putUnit (shape .size) now (numberBy (h .table) ranks shape (stripeFor h entries o) i) (sumWith (h .table) ranks shape now (stripeFor h entries o) i (zeros (shape .size)) (shape .k))
-        → Restored h image (upTo h (o + 1)) after
-    restored-next image now after len R e stored =
+        → Restored h image (between h from (o + 1)) after
+    restored-next image now after {from} len past R e stored =
         rw (stored, P .shape-is, e)
-        (restored-test h (P .ok) image len _ (upTo h (o + 1)) _ (λ n hn g. up-to-next n g)
-        (rw (number-is, sum-is now) (restored-put h (P .ok) image len (upTo h o) now R (unitOn h lost o) unit-lt unit-gone)))
+        (restored-test h (P .ok) image len _ (between h from (o + 1)) _ (λ n hn g. between-next past n g)
+        (rw (number-is, sum-is now) (restored-put h (P .ok) image len (between h from o) now R (unitOn h lost o) unit-lt unit-gone)))
 
--- ---- the whole disk
+-- ---- before the first offset
 
-module _ (h : Shelf) (ok : isShelf h ≡ true) (image : List ℕ) (len : length image ≡ imageSize h) where
-  pub restored-start : Restored h image (upTo h 0) image
-  restored-start = restored-test h ok image len (λ n. false) (upTo h 0) image (λ n hn g. sym (le-ltb (n % depth h) 0 (omega arith))) (restored-none h ok image len)
-
-  pub restored-disk : {o : ℕ} {now : List ℕ} → Restored h image (upTo h o) now → depth h ≤ o → now ≡ rebuiltImage h image
-  restored-disk {o} {now} R all =
-      restored-all h ok image len (upTo h o) now (λ n hn g. lt-ltb (n % depth h) o (omega (arith, mod-lt n (depth-pos h ok)))) R
+pub restored-start : (h : Shelf) → isShelf h ≡ true → (image : List ℕ) → length image ≡ imageSize h → (from : ℕ) → Restored h image (between h from from) image
+restored-start h ok image len from =
+    restored-test h ok image len (λ n. false) (between h from from) image (λ n hn g. sym (none n)) (restored-none h ok image len)
+  where
+    none : (n : ℕ) → between h from from n ≡ false
+    none n = cases (leb from (n % depth h)) (λ t. rw (t, le-ltb (n % depth h) from (leb-true from (n % depth h) t))) (λ t. rw t)

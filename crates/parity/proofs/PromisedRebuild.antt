@@ -18,7 +18,7 @@ use Rattle.design.specs.Loss.{noLoss, isLost, withLoss}
 use Rattle.design.specs.Refusals.{firstBroken}
 use Rattle.parity.specs.declared.Rebuilding.{Rebuilding}
 use Rattle.parity.specs.Units.{zeros}
-use Rattle.parity.specs.Stripe.{units, present}
+use Rattle.parity.specs.Stripe.{depth, units, present}
 use Rattle.parity.specs.Calls.{rebuildRules, rebuiltImage, onDisk, readFrom, rebuilding, Rebuilt}
 use Rattle.parity.proofs.By.{by-accepted, same-verdict}
 use Rattle.parity.proofs.Accepted.{LostCall, rebuild-accepted}
@@ -39,11 +39,11 @@ module _ (h : Shelf) where
     pub rebuild-shelf-is : answer .shelf ≡ withLoss h noLoss
     rebuild-shelf-is = ap (λ (r : Rebuilding). r .shelf) (P .answers) ∙ by-accepted (withLoss h noLoss) h v
 
-    counts-are : answer .counts ≡ listFrom 0 64 (readFrom h)
-    counts-are = ap (λ (r : Rebuilding). r .counts) (P .answers) ∙ by-accepted (listFrom 0 64 (readFrom h)) (zeros 64) v
+    counts-are : answer .counts ≡ listFrom 0 64 (readFrom h 0 (depth h))
+    counts-are = ap (λ (r : Rebuilding). r .counts) (P .answers) ∙ by-accepted (listFrom 0 64 (readFrom h 0 (depth h))) (zeros 64) v
 
     pub rebuild-counts-length : length (answer .counts) ≡ 64
-    rebuild-counts-length = ap length counts-are ∙ length-listFrom 0 64 (readFrom h)
+    rebuild-counts-length = ap length counts-are ∙ length-listFrom 0 64 (readFrom h 0 (depth h))
 
     pub rebuild-leaves : after ≡ rebuiltImage h image
     rebuild-leaves = P .leaves ∙ by-accepted (rebuiltImage h image) image v
@@ -51,8 +51,8 @@ module _ (h : Shelf) where
     pub rebuild-keeps : Kept h (λ n. not (present h n)) image after
     rebuild-keeps = rw rebuild-leaves (rebuild-kept h (w .stored .shelf) image (w .stored .size))
 
-    count-at : (x : ℕ) → x < 64 → getD (answer .counts) x 0 ≡ readFrom h x
-    count-at x l = ap (λ (l : List ℕ). getD l x 0) counts-are ∙ getD-listFrom 0 64 (readFrom h) x l ∙ ap (readFrom h) (zero-add x)
+    count-at : (x : ℕ) → x < 64 → getD (answer .counts) x 0 ≡ readFrom h 0 (depth h) x
+    count-at x l = ap (λ (l : List ℕ). getD l x 0) counts-are ∙ getD-listFrom 0 64 (readFrom h 0 (depth h)) x l ∙ ap (readFrom h 0 (depth h)) (zero-add x)
 
     module _ (d : ℕ) (lost : isLost h d ≡ true) where
       -- the units taken from disk x

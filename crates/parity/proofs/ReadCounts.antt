@@ -20,6 +20,7 @@ use Rattle.design.proofs.ShelfTests.{shelf-parts}
 use Rattle.placement.specs.Layout.{layoutIn, stripes}
 use Rattle.placement.proofs.Bounds.{bounds}
 use Rattle.placement.proofs.Shares.{stripeHolds, pair-stripes}
+use Rattle.parity.specs.Stripe.{depth}
 use Rattle.parity.specs.Calls.{readFrom}
 use Rattle.parity.proofs.Cases.{cases, below-next}
 use Rattle.parity.proofs.Counts.{read-from-is}
@@ -77,11 +78,11 @@ module _ (each : ℕ) (loss : Loss) where
 
 module _ (h : Shelf) (ok : isShelf h ≡ true) where
   pub filled-all : {e : ℕ} {counts : List ℕ} → isWhole (h .loss) ≡ false → Filled (h .T * h .k * h .lambda) (h .loss) e counts → e ≡ h .v
-      → counts ≡ listFrom 0 64 (readFrom h)
+      → counts ≡ listFrom 0 64 (readFrom h 0 (depth h))
   filled-all {e} {counts} some F all =
       let (d, lost) = some-lost (h .loss) some in
-      ext-getD 0 counts (listFrom 0 64 (readFrom h)) (F .size ∙ sym (length-listFrom 0 64 (readFrom h)))
+      ext-getD 0 counts (listFrom 0 64 (readFrom h 0 (depth h))) (F .size ∙ sym (length-listFrom 0 64 (readFrom h 0 (depth h))))
       (λ i l. F .at i (omega (arith, F .size))
       ∙ rw (all, lost-alone (h .loss) d lost i) (sym (read-from-is h ok d lost i))
-      ∙ ap (readFrom h) (sym (zero-add i))
-      ∙ sym (getD-listFrom 0 64 (readFrom h) i (omega (arith, F .size))))
+      ∙ ap (readFrom h 0 (depth h)) (sym (zero-add i))
+      ∙ sym (getD-listFrom 0 64 (readFrom h 0 (depth h)) i (omega (arith, F .size))))

@@ -13,7 +13,7 @@ use Rattle.placement.specs.Layout.{layoutIn, stripes}
 use Rattle.parity.specs.Units.{unitAt, put}
 use Rattle.parity.specs.Stripe.{unitSize, units, imageSize, unitIn, stripeHere, indexHere, present, cell, others}
 use Rattle.parity.specs.inner.Stores.{putUnit}
-use Rattle.parity.specs.Calls.{rebuiltImage}
+use Rattle.parity.specs.Calls.{between, restores, restored}
 use Rattle.parity.proofs.Cases.{cases}
 use Rattle.parity.proofs.Patch.{Patched, patched-none, patched-put, patched-test, patched-is}
 use Rattle.parity.proofs.Home.{unit-lt, stripeHere-lt, indexHere-lt, unit-home, beside-absent}
@@ -61,9 +61,6 @@ module _ (h : Shelf) (ok : isShelf h ≡ true) (image : List ℕ) (len : length 
         tests : (m : ℕ) → m < units h → put (λ m. done m && not (present h m)) n true m ≡ (put done n true m && not (present h m))
         tests m hm = cases (eqb m n) (λ t. rw (t, eqb-true m n t, e)) (λ t. rw t)
 
-  pub restored-all : (done : ℕ → Bool) (now : List ℕ) → ((n : ℕ) → n < units h → present h n ≡ false → done n ≡ true)
-      → Restored h image done now → now ≡ rebuiltImage h image
-  unfolding rebuiltImage
-  restored-all done now all R =
-      patched-is h image _ _ now len (restored-sized h ok image len _)
-      (restored-test done (λ n. true) now all R)
+  pub restored-is : (from to : ℕ) {now : List ℕ} → Restored h image (between h from to) now → now ≡ restored h image from to
+  unfolding restores restored
+  restored-is from to {now} R = patched-is h image _ _ now len (restored-sized h ok image len _) R

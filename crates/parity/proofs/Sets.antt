@@ -125,7 +125,7 @@ module _ (h : Shelf) (ok : isShelf h ≡ true) where
     unfolding rebuildSet
     none-there l n hn = let ne : diskAt h n ≢ e = omega (arith, disk-below h ok n hn) in rw (ne-eqb (diskAt h n) e ne)
 
-    inside : e < h .v → eqb e d ≡ false → count (rebuildSet h d e) (units h) ≡ readFrom h e
+    inside : e < h .v → eqb e d ≡ false → count (rebuildSet h d e) (units h) ≡ readFrom h 0 (depth h) e
     inside he t =
         count-ext _ _ (units h) (λ n l. by-offset t n)
         ∙ disk-count h ok shares e he
@@ -133,13 +133,13 @@ module _ (h : Shelf) (ok : isShelf h ≡ true) where
         ∙ count-ext _ _ (stripes (layoutIn h)) (λ s l. and-comm (onDisk h s e) (onDisk h s d))
         ∙ sym (shared-stripes h ok d lost e (eqb-false e d t))
 
-    own : eqb e d ≡ true → count (rebuildSet h d e) (units h) ≡ readFrom h e
+    own : eqb e d ≡ true → count (rebuildSet h d e) (units h) ≡ readFrom h 0 (depth h) e
     unfolding rebuildSet
     own t =
         count-none _ (units h) (λ n l. rw (t, and-false (eqb (diskAt h n) e)))
-        ∙ sym (ap (readFrom h) (eqb-true e d t) ∙ read-from-lost h ok d lost)
+        ∙ sym (ap (readFrom h 0 (depth h)) (eqb-true e d t) ∙ read-from-lost h ok d lost)
 
-    pub rebuild-size : count (rebuildSet h d e) (units h) ≡ readFrom h e
+    pub rebuild-size : count (rebuildSet h d e) (units h) ≡ readFrom h 0 (depth h) e
     rebuild-size =
         cases (eqb e d) own (λ t. cases (ltb e (h .v))
         (λ l. inside (ltb-true e (h .v) l) t)

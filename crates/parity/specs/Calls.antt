@@ -3,8 +3,8 @@
 use mathlib.Core.Path.{_≡_}
 use mathlib.Core.Bool.{Bool, not, cond, _&&_, _||_}
 use mathlib.Core.List.{List, [], _∷_}
-use Prim.Native.Nat.{ℕ, _+_, _-_, _*_}
-use lib.Dec.{ltb, eqb}
+use Prim.Native.Nat.{ℕ, _+_, _-_, _*_, _%_}
+use lib.Dec.{leb, ltb, eqb}
 use lib.ListN.{length}
 use Rattle.design.specs.declared.Shelf.{Shelf}
 use Rattle.design.specs.declared.Verdict.{Verdict}
@@ -164,23 +164,36 @@ lost h d = record { verdict = firstBroken (loseRules h d); shelf = by (firstBrok
 
 -- ---- rebuild
 
-unfoldable pub rebuiltImage : Shelf → List ℕ → List ℕ
-rebuiltImage h image = patch h image (λ n. not (present h n)) (λ n. others h image (stripeHere h n) (indexHere h n))
+-- unit n has one of the offsets from `from` up to `to`
+abbrev pub between : Shelf → ℕ → ℕ → ℕ → Bool
+between h from to n = leb from (n % depth h) && ltb (n % depth h) to
+
+-- restoring these offsets restores it: it is not present
+unfoldable pub restores : Shelf → ℕ → ℕ → ℕ → Bool
+restores h from to n = between h from to n && not (present h n)
+
+-- each unit that is restored becomes the exclusive-or of the others of its stripe
+unfoldable pub restored : Shelf → List ℕ → ℕ → ℕ → List ℕ
+restored h image from to = patch h image (restores h from to) (λ n. others h image (stripeHere h n) (indexHere h n))
+
+-- a rebuild restores all offsets
+abbrev pub rebuiltImage : Shelf → List ℕ → List ℕ
+rebuiltImage h image = restored h image 0 (depth h)
 
 -- stripe s has a unit on disk d
 abbrev pub onDisk : Shelf → ℕ → ℕ → Bool
 onDisk h s d = holds (layoutIn h .design) (tupleOf (layoutIn h) s) d
 
--- the units read from disk e: one for each unit that is restored and whose stripe has a unit there; of the lost disk none
-unfoldable pub readFrom : Shelf → ℕ → ℕ
-readFrom h e = cond (isLost h e) 0 (count (λ n. not (present h n) && onDisk h (stripeHere h n) e) (units h))
+-- the units read from disk e to restore these offsets: one for each restored unit whose stripe has a unit there; of the lost disk none
+unfoldable pub readFrom : Shelf → ℕ → ℕ → ℕ → ℕ
+readFrom h from to e = cond (isLost h e) 0 (count (λ n. restores h from to n && onDisk h (stripeHere h n) e) (units h))
 
 abbrev pub rebuilding : Verdict → Shelf → Rebuilding
 rebuilding verdict h =
     record {
       verdict = verdict;
       shelf = by verdict (withLoss h noLoss) h;
-      counts = by verdict (listFrom 0 64 (readFrom h)) (zeros 64);
+      counts = by verdict (listFrom 0 64 (readFrom h 0 (depth h))) (zeros 64);
     }
 
 abbrev pub Rebuilt : Shelf → List ℕ → Rebuilding → List ℕ → Type 0

@@ -144,7 +144,8 @@ pub fn rebuild(shelf: Shelf, image: &mut [u8]) -> Rebuilding
             counts: [0; Shelf::V_MOST],
         };
     };
-    restoring::restore_disk(shelf, image);
+    let shape = sizes::shape_of(shelf);
+    restoring::restore_range(shelf, image, 0, shape.depth);
     let counts = restoring::counts(shelf);
     let shelf = presence::with_loss(shelf, Loss::none());
     Rebuilding {

@@ -1,12 +1,13 @@
-// The rebuild of the lost disk, offset after offset.
+// The rebuild of the lost disk, offset after offset, and what it reads.
 ghost use mathlib.Core.Path.{_≡_};
 ghost use mathlib.Core.Bool.{true, false, cond};
-ghost use Prim.Native.Nat.{_-_, _<_};
+ghost use Prim.Native.Nat.{_-_, _≤_, _<_};
 ghost use lib.Dec.{ltb, eqb};
 ghost use Rattle.design.specs.Count.{listFrom};
 ghost use Rattle.design.specs.Loss.{isWhole};
 ghost use Rattle.design.specs.Shelf.{isShelf};
-ghost use Rattle.parity.specs.Calls.{rebuiltImage, readFrom};
+ghost use Rattle.parity.specs.Stripe.{depth};
+ghost use Rattle.parity.specs.Calls.{restored, readFrom};
 ghost use Rattle.parity.specs.inner.Shapes.{Held};
 use crate::presence;
 use crate::sizes;
@@ -29,12 +30,13 @@ fn index_of(k: usize, parity: usize, position: usize) -> usize
     }
 }
 
-// Each unit of the lost disk becomes the exclusive-or of the rest of its stripe. Where its tuples stand in the table is
-// looked up once.
-pub fn restore_disk(shelf: Shelf, image: &mut [u8])
+// Each unit of the lost disk with an offset from `from` up to `to` becomes the exclusive-or of the rest of its stripe. Where the disk's
+// tuples stand in the table is looked up once.
+pub fn restore_range(shelf: Shelf, image: &mut [u8], from: usize, to: usize)
     requires { ⌜ Held shelf (now image) ⌝ }
     requires { ⌜ isWhole (shelf .loss) ≡ false ⌝ }
-    ensures { λ _. ⌜ now (image .exit) ≡ rebuiltImage shelf (now (image .entry)) ⌝ }
+    requires { ⌜ (from ≤ to) × (to ≤ depth shelf) ⌝ }
+    ensures { λ _. ⌜ now (image .exit) ≡ restored shelf (now (image .entry)) from to ⌝ }
 {
     let loss = shelf.loss;
     let lost = presence::lost_disk(loss);
@@ -44,7 +46,7 @@ pub fn restore_disk(shelf: Shelf, image: &mut [u8])
     let ranks = sizes::ranks_of(shelf);
     let entries = fast::entries(&table, shelf.b * k, lost);
     let shape = sizes::shape_of(shelf);
-    for o in 0..shape.depth {
+    for o in from..to {
         let entry = entries[o % r] as usize;
         let row = o / r;
         let s = row * shelf.b + entry / k;
@@ -57,7 +59,7 @@ pub fn restore_disk(shelf: Shelf, image: &mut [u8])
 pub fn counts(shelf: Shelf) -> [usize; Shelf::V_MOST]
     requires { ⌜ isShelf shelf ≡ true ⌝ }
     requires { ⌜ isWhole (shelf .loss) ≡ false ⌝ }
-    ensures { λ r. ⌜ r ≡ listFrom 0 64 (readFrom shelf) ⌝ }
+    ensures { λ r. ⌜ r ≡ listFrom 0 64 (readFrom shelf 0 (depth shelf)) ⌝ }
 {
     let mut counts = [0; Shelf::V_MOST];
     let loss = shelf.loss;

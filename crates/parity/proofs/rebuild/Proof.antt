@@ -2,11 +2,14 @@
 use mathlib.Core.Path.{_≡_, sym, ap, _∙_}
 use mathlib.Core.List.{List}
 use Prim.Native.Nat.{ℕ}
+use native.Mathlib.Omega.{arith}
 use borrow.Author.Needs.{needs}
 use Rattle.design.specs.declared.Shelf.{Shelf}
 use Rattle.design.specs.declared.Verdict.{Verdict}
 use Rattle.design.specs.Loss.{withLoss}
 use Rattle.parity.specs.declared.Rebuilding.{Rebuilding}
+use Rattle.parity.specs.declared.Shape.{Shape}
+use Rattle.parity.specs.Calls.{restored}
 use Rattle.parity.proofs.By.{accepted-gives, refused-gives}
 use Rattle.parity.proofs.Accepted.{LostCall, rebuild-accepted}
 use Rattle.parity.proofs.rebuild.Statement.{statement}
@@ -31,22 +34,33 @@ returns c =
       leaves = refused-gives _ _ judged refused;
     }
 
-restore-disk-requires : tie.Need-restore-disk-requires
-restore-disk-requires c κs = let w = accepted (c .before) in (w .stored, w .lost)
-
-counts-requires : tie.Need-counts-requires
-counts-requires c κs = let w = accepted (c .before .before .before .before) in (w .stored .shelf, w .lost)
-
 returns-2 : tie.Need-returns-2
 returns-2 c =
     let stored = c .before .before .before .before .before in
-    let told = stored .before .before in
+    let shape = stored .before .before in
+    let told = shape .before in
     let judged = told .before .before .of-rebuild .ensures in
     let passed = told .enum-told .given .1 in
+    let args = told .before .before .before .before .args in
     record {
-      answers = same-answer judged (accepted-gives _ _ judged passed (c .with-loss .ensures ∙ ap (withLoss (told .before .before .before .before .args .shelf)) (c .before .none .ensures))) (accepted-gives _ _ judged passed (c .before .before .counts .ensures));
-      leaves = accepted-gives _ _ judged passed (stored .restore-disk .ensures);
+      answers = same-answer judged
+          (accepted-gives _ _ judged passed (c .with-loss .ensures ∙ ap (withLoss (args .shelf)) (c .before .none .ensures)))
+          (accepted-gives _ _ judged passed (c .before .before .counts .ensures));
+      leaves = accepted-gives _ _ judged passed
+          (stored .restore-range .ensures ∙ ap (λ (x : Shape). restored (args .shelf) (args .image .now) 0 (x .depth)) (shape .shape-of .ensures));
     }
+
+shape-of-requires : tie.Need-shape-of-requires
+shape-of-requires c κs = accepted c .stored .shelf
+
+restore-range-requires : tie.Need-restore-range-requires
+restore-range-requires c κs =
+    let w = accepted (c .before .before) in
+    let deep = ap (λ (x : Shape). x .depth) (c .before .shape-of .ensures) in
+    (w .stored, (w .lost, (omega arith, omega (arith, deep))))
+
+counts-requires : tie.Need-counts-requires
+counts-requires c κs = let w = accepted (c .before .before .before .before .before) in (w .stored .shelf, w .lost)
 
 pub rebuild-spec : {M : Type 1} → statement M
 rebuild-spec =
@@ -56,7 +70,8 @@ rebuild-spec =
     (λ c. search needs)
     (λ c. search needs)
     returns
-    restore-disk-requires
+    shape-of-requires
+    restore-range-requires
     counts-requires
     (λ c κs. search needs)
     (λ c κs. search needs)

@@ -1,6 +1,6 @@
--- `parity::restoring::restore_disk` meets its contract. The loop's invariant: the units at the offsets passed are restored. The measure is
+-- `parity::restoring::restore_range` meets its contract. The loop's invariant: the units at the offsets passed are restored. The measure is
 -- the offsets left. Assumes nothing.
-use mathlib.Core.Path.{_≡_, sym, ap, _∙_}
+use mathlib.Core.Path.{_≡_, sym, _∙_}
 use Prim.Native.Nat.{_-_, _/_, _%_, _^_, _≤_, _<_}
 use native.Mathlib.Nat.{mod-lt}
 use native.Mathlib.Omega.{arith}
@@ -10,19 +10,19 @@ use Rattle.placement.specs.Layout.{layoutIn}
 use Rattle.placement.proofs.Even.{Even, even-shelf}
 use Rattle.placement.proofs.Bounds.{bounds}
 use Rattle.placement.proofs.PerEntry.{entries-at}
-use Rattle.parity.specs.declared.Shape.{Shape}
 use Rattle.parity.specs.Stripe.{depth}
+use Rattle.parity.specs.Calls.{between}
 use Rattle.parity.proofs.Ready.{entries-fit}
-use Rattle.parity.proofs.Restores.{Restored}
-use Rattle.parity.proofs.LostUnits.{upTo, stripeFor, Prepared, rank-fits, stripe-lt, index-lt, offset-placed, restored-next, restored-start, restored-disk}
-use Rattle.parity.proofs.restoring.restore_disk.Statement.{statement}
-use Rattle.parity.proofs.restoring.restore_disk.Tie as tie
+use Rattle.parity.proofs.Restores.{Restored, restored-is}
+use Rattle.parity.proofs.LostUnits.{stripeFor, Prepared, rank-fits, stripe-lt, index-lt, offset-placed, restored-next, restored-start}
+use Rattle.parity.proofs.restoring.restore_range.Statement.{statement}
+use Rattle.parity.proofs.restoring.restore_range.Tie as tie
 
 abbrev Inv-loop : tie.InvT-loop
-Inv-loop shelf image₀ lost k r table ranks entries shape o₀ depth image o = (o ≤ depth) × Restored shelf image₀ (upTo shelf o) image
+Inv-loop shelf image₀ from to lost k r table ranks entries shape o₀ image o = (from ≤ o) × (o ≤ to) × Restored shelf image₀ (between shelf from o) image
 
 abbrev μ-loop : tie.MeasureT-loop
-μ-loop shelf image₀ lost k r table ranks entries shape o₀ depth image o = depth - o
+μ-loop shelf image₀ from to lost k r table ranks entries shape o₀ image o = to - o
 
 -- ---- before the loop
 
@@ -42,7 +42,7 @@ prepared c = record {
 }
 
 lost-disk-requires : tie.Need-lost-disk-requires Inv-loop μ-loop
-lost-disk-requires c κs = c .before .before .pre .1
+lost-disk-requires c κs = c .before .before .pre .1 .0
 
 ranks-of-requires : tie.Need-ranks-of-requires Inv-loop μ-loop
 ranks-of-requires c κs = c .before .before .before .before .pre .0 .shelf
@@ -61,23 +61,27 @@ shape-of-requires : tie.Need-shape-of-requires Inv-loop μ-loop
 shape-of-requires c κs = c .before .before .before .before .before .before .before .before .pre .0 .shelf
 
 loop-holds : tie.Need-loop-holds Inv-loop μ-loop
-loop-holds c = (omega arith, restored-start (start c .args .shelf) (start c .pre .0 .shelf) _ (start c .pre .0 .size))
+loop-holds c = (omega arith, start c .pre .1 .1 .0, restored-start (start c .args .shelf) (start c .pre .0 .shelf) _ (start c .pre .0 .size) _)
 
--- ---- after the loop: the units at all offsets are restored
+-- ---- after the loop: the units at these offsets are restored
 
 same-length : tie.Need-same-length Inv-loop μ-loop
-same-length c = c .before .loop .inv .1 .len ∙ sym (start (c .before .before) .pre .0 .size)
+same-length c = c .before .loop .inv .2 .len ∙ sym (start (c .before .before) .pre .0 .size)
 
 returns : tie.Need-returns Inv-loop μ-loop
 returns c =
     let s = start (c .before .before) in
-    let deep : c .before .before .shape-of .result .depth ≡ depth (s .args .shelf) = ap (λ (x : Shape). x .depth) (c .before .before .shape-of .ensures) in
-    restored-disk (s .args .shelf) (s .pre .0 .shelf) (s .args .image .now) (s .pre .0 .size) (c .before .loop .inv .1) (omega arith)
+    let all : c .before .loop .o ≡ s .args .to = omega (arith, c .before .loop .inv .1, c .loop-test .left) in
+    restored-is (s .args .shelf) (s .pre .0 .shelf) (s .args .image .now) (s .pre .0 .size) (s .args .from) (s .args .to) (rw all at (c .before .loop .inv .2))
 
 -- ---- at offset o
 
 abbrev shelf : tie.In-loop Inv-loop μ-loop → Shelf
 shelf c = start (c .before .before) .args .shelf
+
+-- it is one of the disk's
+offset-lt : (c : tie.In-loop Inv-loop μ-loop) → c .before .loop .o < depth (shelf c)
+offset-lt c = omega (arith, c .loop-test .taken, start (c .before .before) .pre .1 .1 .1)
 
 even : (c : tie.In-loop Inv-loop μ-loop) → Even (layoutIn (shelf c))
 even c = even-shelf (shelf c) (start (c .before .before) .pre .0 .shelf)
@@ -107,7 +111,7 @@ div-row c = even c .r-pos
 below : (c : tie.In-loop Inv-loop μ-loop) → stripeFor (shelf c) (c .before .before .before .entries .result) (c .before .loop .o) < 2 ^ 27
 below c =
     let P = prepared (c .before .before) in
-    omega (arith, stripe-lt (shelf c) P (c .before .loop .o) (c .loop-test .taken), bounds (shelf c) (P .ok) .stripes)
+    omega (arith, stripe-lt (shelf c) P (c .before .loop .o) (offset-lt c), bounds (shelf c) (P .ok) .stripes)
 
 mul-s : tie.Need-mul-s Inv-loop μ-loop
 mul-s c = omega (arith, below (c .before))
@@ -139,9 +143,14 @@ restore-requires c κs =
     let turn = i .before .before in
     let P = prepared (turn .before .before) in
     let o = turn .before .loop .o in (
-      offset-placed (shelf turn) P o (turn .loop-test .taken) (turn .before .loop .image) (turn .before .loop .inv .1 .len),
-      index-lt (shelf turn) P o (turn .loop-test .taken) (i .index-of .ensures),
+      offset-placed (shelf turn) P o (offset-lt turn) (turn .before .loop .image) (turn .before .loop .inv .2 .len),
+      index-lt (shelf turn) P o (offset-lt turn) (i .index-of .ensures),
     )
+
+add-o : tie.Need-add-o Inv-loop μ-loop
+add-o c =
+    let turn = c .before .before .before .before .before .before .before .before in
+    omega (arith, offset-lt turn, bounds (shelf turn) (start (turn .before .before) .pre .0 .shelf) .offsets)
 
 loop-again : tie.Need-loop-again Inv-loop μ-loop
 loop-again c =
@@ -151,11 +160,12 @@ loop-again c =
     let P = prepared (turn .before .before) in
     let o = turn .before .loop .o in (
       omega arith,
-      restored-next (shelf turn) P o (turn .loop-test .taken) (s .args .image .now) (turn .before .loop .image) _ (s .pre .0 .size) (turn .before .loop .inv .1) (i .index-of .ensures) (c .before .before .restore .ensures),
+      omega arith,
+      restored-next (shelf turn) P o (offset-lt turn) (s .args .image .now) (turn .before .loop .image) _ (s .pre .0 .size) (turn .before .loop .inv .0) (turn .before .loop .inv .2) (i .index-of .ensures) (c .before .before .restore .ensures),
     )
 
-pub restore-disk-spec : {M : Type 1} → statement M
-restore-disk-spec =
+pub restore-range-spec : {M : Type 1} → statement M
+restore-range-spec =
     tie.close
     (tie.spec
     Inv-loop
@@ -180,7 +190,7 @@ restore-disk-spec =
     rem-index-of-2
     index-of-requires
     restore-requires
-    (λ c. omega arith)
+    add-o
     (λ c. omega arith)
     loop-again
     same-length
