@@ -15,7 +15,7 @@ use design::Verdict;
 use placement::LookUp;
 use placement::Placing;
 use placement::Spot;
-use placement::fast;
+use placement::unchecked;
 
 // Puts record i of 16 bytes.
 fn put_spot(out: &mut [u8], i: usize, spot: Spot)
@@ -78,7 +78,7 @@ fn put_run(shelf: Shelf, first: usize, out: &mut [u8])
 {
     let n = out.len() / 16;
     for i in 0..n {
-        put_spot(out, i, fast::spot(shelf, first + i));
+        put_spot(out, i, unchecked::spot(shelf, first + i));
     }
 }
 

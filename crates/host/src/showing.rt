@@ -9,7 +9,7 @@ ghost use Rattle.host.specs.Value.{shelfIn};
 ghost use Rattle.host.specs.Stored.{placeStart, addressStart};
 use crate::value;
 use design::Shelf;
-use placement::fast;
+use placement::unchecked;
 
 // Not shown.
 const REFUSED: usize = 18446744073709551615;
@@ -20,7 +20,7 @@ fn start(shelf: Shelf, disk: usize, offset: usize) -> usize
     requires { ⌜ (isShelf shelf ≡ true) × (disk < shelf .v) × (offset < depth shelf) ⌝ }
     ensures { λ r. ⌜ r ≡ (disk * depth shelf + offset) * unitSize shelf ⌝ }
 {
-    (disk * fast::offsets(shelf) + offset) * (1 << shelf.u)
+    (disk * unchecked::offsets(shelf) + offset) * (1 << shelf.u)
 }
 
 // Where the unit at a place starts in the image.
@@ -57,7 +57,7 @@ pub extern "C" fn shqemtuli_show_address<'a>(
     if part.len() == 0 {
         return REFUSED;
     }
-    let spot = fast::spot(taken, address);
+    let spot = unchecked::spot(taken, address);
     let here = parity::show_place(taken, image, spot.disk, spot.offset);
     if here.len() == 0 {
         return SECOND_BUFFER;

@@ -4,7 +4,7 @@ ghost use Rattle.placement.specs.Layout.{layoutIn, stripes, addresses, offsets}
 ghost use Rattle.parity.specs.Stripe.{unitSize, imageSize};
 ghost use Rattle.host.specs.Sheets.{sized, sheetSize};
 use crate::value;
-use placement::fast;
+use placement::unchecked;
 
 struct Sizes {
     sheet: usize,
@@ -36,15 +36,15 @@ fn measure(shelf: &[u8]) -> Sizes
         };
     }
     let unit = 1 << taken.u;
-    let offsets = fast::offsets(taken);
+    let offsets = unchecked::offsets(taken);
     let sheet = 6 + (6 * (taken.b * taken.k) + 7) / 8;
     let image = taken.v * offsets * unit;
     Sizes {
         sheet,
         image,
         unit,
-        stripes: fast::stripes(taken),
-        addresses: fast::addresses(taken),
+        stripes: unchecked::stripes(taken),
+        addresses: unchecked::addresses(taken),
         offsets,
     }
 }

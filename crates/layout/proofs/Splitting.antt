@@ -3,7 +3,7 @@ use mathlib.Core.Path.{_≡_}
 use Prim.Native.Nat.{ℕ, _+_, _*_, _/_, _%_, _≤_, _<_}
 use native.Mathlib.Nat.{mul-le-mul, mul-le-mul-right, le-mul-of-pos-right, mod-lt, div-le-self, div-lt-iff-lt-mul}
 use native.Mathlib.Omega.{arith}
-use Rattle.placement.specs.declared.fast.Split.{Split}
+use Rattle.placement.specs.declared.unchecked.Split.{Split}
 use Rattle.placement.specs.Layout.{splitOf}
 use Rattle.layout.specs.inner.Steps.{Reckoned}
 

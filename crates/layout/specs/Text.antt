@@ -9,7 +9,7 @@ use Rattle.design.specs.declared.Verdict.{Verdict}
 use Rattle.design.specs.declared.Verdict.the-variants.{Accepted, Refused}
 use Rattle.design.specs.Refusals.{number}
 use Rattle.design.specs.Sheet.{opened}
-use Rattle.placement.specs.declared.fast.Place.{Place}
+use Rattle.placement.specs.declared.unchecked.Place.{Place}
 use Rattle.placement.specs.Slots.{positionOf}
 use Rattle.placement.specs.Layout.{Layout, layoutIn, stripes, parityOf, placeOf}
 

@@ -7,7 +7,7 @@ ghost use Rattle.layout.specs.Calls.{started, Written, refusedRules, fir
 use design::Refusal;
 use design::Shelf;
 use design::Verdict;
-use placement::fast;
+use placement::unchecked;
 
 mod digits;
 mod write;
@@ -39,7 +39,7 @@ pub fn open(sheet: &[u8]) -> Start
         return Start {
             number: 0,
             shelf,
-            stripes: fast::stripes(shelf),
+            stripes: unchecked::stripes(shelf),
         };
     };
     Start {
@@ -80,7 +80,7 @@ pub fn lines(shelf: Shelf, first: usize, n: usize, buffer: &mut [u8]) -> Text
     if !shelf.is_shelf() {
         return Text::Refused(Refusal::NotAShelf);
     }
-    let stripes = fast::stripes(shelf);
+    let stripes = unchecked::stripes(shelf);
     if stripes < first {
         return Text::Refused(Refusal::OutOfRange);
     }

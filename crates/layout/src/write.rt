@@ -12,8 +12,8 @@ ghost use Rattle.layout.specs.inner.Steps.{Fits, Put, entryWord, dataWor
 use crate::digits;
 use design::Shelf;
 use design::Table;
-use placement::fast;
-use placement::fast::PerEntry;
+use placement::unchecked;
+use placement::unchecked::PerEntry;
 
 fn line_end(out: &mut [u8], at: usize) -> usize
     requires { ⌜ at < length (now out) ⌝ }
@@ -110,7 +110,7 @@ fn data(
 {
     let mut next = at;
     for j in 0..n {
-        let position = fast::position_of(parity, j);
+        let position = unchecked::position_of(parity, j);
         next = place(out, next, table, ranks, base, row + position);
     }
     next
@@ -131,7 +131,7 @@ fn line(
     requires { ⌜ Reckoned k b r s ⌝ }
     ensures { λ next. ⌜ Put (now (out .entry)) at (rankedLine (now (table .entry)) (now (ranks .entry)) k b r s) next (now (out .exit)) ⌝ }
 {
-    let split = fast::split_of(k, b, s);
+    let split = unchecked::split_of(k, b, s);
     let row = split.tuple * k;
     let base = split.full_table * r * k + split.copy * r;
     let number = digits::number(out, at, s);
@@ -149,7 +149,7 @@ pub fn lines(out: &mut [u8], shelf: Shelf, first: usize, n: usize) -> usize
     let k = shelf.k;
     let b = shelf.b;
     let r = shelf.r;
-    let ranks = fast::ranks(&table, b * k);
+    let ranks = unchecked::ranks(&table, b * k);
     let mut at: usize = 0;
     for i in 0..n {
         at = line(out, at, &table, &ranks, k, b, r, first + i);

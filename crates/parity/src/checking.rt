@@ -8,7 +8,7 @@ use crate::bytes;
 use crate::sizes;
 use crate::stripe;
 use design::Shelf;
-use placement::fast;
+use placement::unchecked;
 
 // The bytes of the largest unit.
 const UNIT_MOST: usize = 1 << Shelf::U_MOST;
@@ -24,7 +24,7 @@ pub fn count_wrong(shelf: Shelf, image: &[u8]) -> usize
     let size = shape.size;
     let mut sum = [0u8; UNIT_MOST];
     let mut wrong = 0;
-    for s in 0..fast::stripes(shelf) {
+    for s in 0..unchecked::stripes(shelf) {
         stripe::gather(&mut sum[..size], image, &table, &ranks, shape, s, shelf.k);
         if !bytes::is_zero(&sum[..size]) {
             wrong += 1;

@@ -7,7 +7,7 @@ ghost use Rattle.parity.specs.Stripe.{present};
 use design::Loss;
 use design::Lost;
 use design::Shelf;
-use placement::fast;
+use placement::unchecked;
 
 // Whether no disk is lost.
 pub fn is_whole(loss: Loss) -> bool
@@ -49,7 +49,7 @@ pub fn is_present(shelf: Shelf, n: usize) -> bool
     ensures { λ r. ⌜ r ≡ present shelf n ⌝ }
 {
     let loss = shelf.loss;
-    !is_lost(loss, n / fast::offsets(shelf))
+    !is_lost(loss, n / unchecked::offsets(shelf))
 }
 
 // The shelf with another loss.

@@ -13,7 +13,7 @@ use crate::presence;
 use crate::sizes;
 use crate::stripe;
 use design::Shelf;
-use placement::fast;
+use placement::unchecked;
 
 // Which unit of its stripe stands at a position: data before and after the parity in address order, the parity last.
 fn index_of(k: usize, parity: usize, position: usize) -> usize
@@ -44,7 +44,7 @@ pub fn restore_range(shelf: Shelf, image: &mut [u8], from: usize, to: usize)
     let r = shelf.r;
     let table = shelf.table;
     let ranks = sizes::ranks_of(shelf);
-    let entries = fast::entries(&table, shelf.b * k, lost);
+    let entries = unchecked::entries(&table, shelf.b * k, lost);
     let shape = sizes::shape_of(shelf);
     for o in from..to {
         let entry = entries[o % r] as usize;

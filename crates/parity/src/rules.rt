@@ -8,7 +8,7 @@ use crate::sizes;
 use design::Refusal;
 use design::Shelf;
 use design::Verdict;
-use placement::fast;
+use placement::unchecked;
 
 // The verdict of the rules so far and of one more.
 fn also(verdict: Verdict, kept: bool, refusal: Refusal) -> Verdict
@@ -62,7 +62,12 @@ pub fn of_unit(shelf: Shelf, n: usize, address: usize, m: usize) -> Verdict
     let Verdict::Accepted = verdict else {
         return verdict;
     };
-    of_span(address, fast::addresses(shelf), m, sizes::unit_size(shelf))
+    of_span(
+        address,
+        unchecked::addresses(shelf),
+        m,
+        sizes::unit_size(shelf),
+    )
 }
 
 // 10 11 12 13, of an image of n bytes and a stripe buffer of m.
@@ -75,7 +80,7 @@ pub fn of_stripe(shelf: Shelf, n: usize, stripe: usize, m: usize) -> Verdict
     };
     of_span(
         stripe,
-        fast::stripes(shelf),
+        unchecked::stripes(shelf),
         m,
         (shelf.k - 1) * sizes::unit_size(shelf),
     )
@@ -109,7 +114,11 @@ pub fn of_place(shelf: Shelf, n: usize, disk: usize, offset: usize) -> Verdict
         return verdict;
     };
     let there = also(verdict, disk < shelf.v, Refusal::OutOfRange);
-    let ranged = also(there, offset < fast::offsets(shelf), Refusal::OutOfRange);
+    let ranged = also(
+        there,
+        offset < unchecked::offsets(shelf),
+        Refusal::OutOfRange,
+    );
     let Verdict::Accepted = ranged else {
         return ranged;
     };

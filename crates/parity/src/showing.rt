@@ -9,7 +9,7 @@ ghost use Rattle.parity.specs.inner.Shapes.{Held, UnitCall};
 use crate::presence;
 use crate::sizes;
 use design::Shelf;
-use placement::fast;
+use placement::unchecked;
 
 // The unit at a place.
 pub fn part(shelf: Shelf, image: &[u8], disk: usize, offset: usize) -> &[u8]
@@ -27,7 +27,7 @@ pub fn shown<'a>(shelf: Shelf, image: &'a [u8], address: usize, other: &'a [u8])
     requires { ⌜ UnitCall shelf (now image) address (now other) ⌝ }
     ensures { λ r. ⌜ now r ≡ cond (present shelf (unitIn shelf (stripeOf (layoutIn shelf) address) (jOf (layoutIn shelf) address))) (cell shelf (now (image .entry)) (stripeOf (layoutIn shelf) address) (jOf (layoutIn shelf) address)) (now (other .entry)) ⌝ }
 {
-    let spot = fast::spot(shelf, address);
+    let spot = unchecked::spot(shelf, address);
     let n = sizes::unit_at(shelf, spot.disk, spot.offset);
     if presence::is_present(shelf, n) {
         return part(shelf, image, spot.disk, spot.offset);

@@ -8,8 +8,8 @@ ghost use Rattle.parity.specs.inner.Stores.{Ranked};
 ghost use Rattle.parity.specs.inner.Shapes.{shapeIn};
 use crate::Shape;
 use design::Shelf;
-use placement::fast;
-use placement::fast::PerEntry;
+use placement::unchecked;
+use placement::unchecked::PerEntry;
 
 // U.
 pub fn unit_size(shelf: Shelf) -> usize
@@ -24,7 +24,7 @@ pub fn image_size(shelf: Shelf) -> usize
     requires { ⌜ isShelf shelf ≡ true ⌝ }
     ensures { λ r. ⌜ r ≡ imageSize shelf ⌝ }
 {
-    shelf.v * fast::offsets(shelf) * unit_size(shelf)
+    shelf.v * unchecked::offsets(shelf) * unit_size(shelf)
 }
 
 // The number in the image of the unit at a place.
@@ -33,7 +33,7 @@ pub fn unit_at(shelf: Shelf, disk: usize, offset: usize) -> usize
     requires { ⌜ (disk < shelf .v) × (offset < depth shelf) ⌝ }
     ensures { λ r. ⌜ r ≡ disk * depth shelf + offset ⌝ }
 {
-    disk * fast::offsets(shelf) + offset
+    disk * unchecked::offsets(shelf) + offset
 }
 
 pub fn shape_of(shelf: Shelf) -> Shape
@@ -44,7 +44,7 @@ pub fn shape_of(shelf: Shelf) -> Shape
         k: shelf.k,
         b: shelf.b,
         r: shelf.r,
-        depth: fast::offsets(shelf),
+        depth: unchecked::offsets(shelf),
         size: unit_size(shelf),
     }
 }
@@ -55,5 +55,5 @@ pub fn ranks_of(shelf: Shelf) -> PerEntry
     ensures { λ r. ⌜ Ranked (shelf .table) (shelf .b * shelf .k) r ⌝ }
 {
     let table = shelf.table;
-    fast::ranks(&table, shelf.b * shelf.k)
+    unchecked::ranks(&table, shelf.b * shelf.k)
 }

@@ -18,7 +18,7 @@ use crate::stripe;
 use crate::units;
 use design::Shelf;
 use design::Verdict;
-use placement::fast;
+use placement::unchecked;
 
 // Where the unit of an address stands: its stripe and its index there, and the numbers in the image of the unit and of the stripe's
 // parity.
@@ -33,7 +33,7 @@ fn standing_of(shelf: Shelf, address: usize) -> Standing
     requires { ⌜ (isShelf shelf ≡ true) × (address < addresses (layoutIn shelf)) ⌝ }
     ensures { λ r. ⌜ r ≡ standingIn shelf address ⌝ }
 {
-    let spot = fast::spot(shelf, address);
+    let spot = unchecked::spot(shelf, address);
     let count = shelf.k - 1;
     Standing {
         stripe: address / count,

@@ -12,7 +12,7 @@ use crate::units;
 use crate::whole;
 use design::Shelf;
 use design::Table;
-use placement::fast::PerEntry;
+use placement::unchecked::PerEntry;
 
 // Unit i of stripe s becomes the exclusive-or of the others.
 pub fn restore(image: &mut [u8], table: &Table, ranks: &PerEntry, shape: Shape, s: usize, i: usize)

@@ -6,7 +6,7 @@ ghost use Rattle.parity.specs.Units.{zeros, unitAt, xorU};
 ghost use Rattle.parity.specs.inner.Stores.{putUnit, numberIn, Reckoned};
 use crate::bytes;
 use design::Table;
-use placement::fast::PerEntry;
+use placement::unchecked::PerEntry;
 
 pub fn clear_unit(image: &mut [u8], n: usize, size: usize)
     requires { ⌜ n * size + size ≤ length (now image) ⌝ }

@@ -12,7 +12,7 @@ use crate::bytes;
 use crate::stripe;
 use crate::units;
 use design::Table;
-use placement::fast::PerEntry;
+use placement::unchecked::PerEntry;
 
 // The first index beside i, and the second.
 fn first_beside(i: usize) -> usize

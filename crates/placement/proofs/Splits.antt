@@ -8,8 +8,8 @@ use lib.Arith.{digits-lt}
 use Rattle.design.specs.declared.Shelf.{Shelf}
 use Rattle.design.specs.Shelf.{isShelf}
 use Rattle.design.proofs.ShelfTests.{shelf-parts}
-use Rattle.placement.specs.declared.fast.Split.{Split}
-use Rattle.placement.specs.declared.fast.Place.{Place}
+use Rattle.placement.specs.declared.unchecked.Split.{Split}
+use Rattle.placement.specs.declared.unchecked.Place.{Place}
 use Rattle.placement.specs.Layout.{Layout, layoutIn, stripes, offsets, splitOf, stripeSplit, parityOf, SplitIn, offsetOf, placeIn, placeOf}
 use Rattle.placement.proofs.Even.{Even, even-shelf}
 use Rattle.placement.proofs.Row.{tuple-lt, copy-lt, rank-lt}

@@ -8,8 +8,8 @@ use Rattle.design.specs.Refusals.{firstBroken}
 use Rattle.placement.specs.declared.Spot.{Spot}
 use Rattle.placement.specs.declared.Placing.{Placing}
 use Rattle.placement.specs.declared.LookUp.{LookUp}
-use Rattle.placement.specs.declared.fast.Split.{Split}
-use Rattle.placement.specs.declared.fast.Place.{Place}
+use Rattle.placement.specs.declared.unchecked.Split.{Split}
+use Rattle.placement.specs.declared.unchecked.Place.{Place}
 use Rattle.placement.specs.Slots.{positionOf, indexOf}
 use Rattle.placement.specs.Layout.{layoutIn, stripes, addresses, offsets, splitOf, placeIn}
 use Rattle.placement.specs.Entries.{ranksOf, entriesOf}

@@ -3,8 +3,8 @@
 use Prim.Native.Nat.{ℕ, _+_, _-_, _*_, _/_, _%_, _<_}
 use lib.Dec.{eqb}
 use Rattle.design.specs.declared.Shelf.{Shelf}
-use Rattle.placement.specs.declared.fast.Split.{Split}
-use Rattle.placement.specs.declared.fast.Place.{Place}
+use Rattle.placement.specs.declared.unchecked.Split.{Split}
+use Rattle.placement.specs.declared.unchecked.Place.{Place}
 use Rattle.design.specs.Count.{nth}
 use Rattle.design.specs.Tuples.{Design, holds, before}
 use Rattle.design.specs.Shelf.{designIn}

@@ -10,9 +10,9 @@ use design::Refusal;
 use design::Shelf;
 use design::Verdict;
 
-pub mod fast;
 mod seek;
 mod slots;
+pub mod unchecked;
 
 // The place of an address and of its stripe's parity: one record of a run.
 pub struct Spot {
@@ -41,10 +41,10 @@ pub fn place(shelf: Shelf, address: usize) -> Placing
     if !shelf.is_shelf() {
         return Placing::Refused(Refusal::NotAShelf);
     }
-    if fast::addresses(shelf) <= address {
+    if unchecked::addresses(shelf) <= address {
         return Placing::Refused(Refusal::OutOfRange);
     }
-    Placing::At(fast::spot(shelf, address))
+    Placing::At(unchecked::spot(shelf, address))
 }
 
 // Looks a place up.
@@ -57,10 +57,10 @@ pub fn look_up(shelf: Shelf, disk: usize, offset: usize) -> LookUp
     if shelf.v <= disk {
         return LookUp::Refused(Refusal::OutOfRange);
     }
-    if fast::offsets(shelf) <= offset {
+    if unchecked::offsets(shelf) <= offset {
         return LookUp::Refused(Refusal::OutOfRange);
     }
-    fast::stands_at(shelf, disk, offset)
+    unchecked::stands_at(shelf, disk, offset)
 }
 
 // Of a run of n records, the first rule that is broken. The sum of `first` and n may not fit, so n is held against what is
@@ -71,7 +71,7 @@ pub fn run_verdict(shelf: Shelf, first: usize, n: usize) -> Verdict
     if !shelf.is_shelf() {
         return Verdict::Refused(Refusal::NotAShelf);
     }
-    let addresses = fast::addresses(shelf);
+    let addresses = unchecked::addresses(shelf);
     if addresses < first {
         return Verdict::Refused(Refusal::OutOfRange);
     }
@@ -96,7 +96,7 @@ fn run_spot(shelf: Shelf, first: usize, i: usize) -> Spot
     requires { ⌜ (isShelf shelf ≡ true) × (first + i < addresses (layoutIn shelf)) ⌝ }
     ensures { λ r. ⌜ r ≡ spotOf (layoutIn shelf) (first + i) ⌝ }
 {
-    fast::spot(shelf, first + i)
+    unchecked::spot(shelf, first + i)
 }
 
 // Places the consecutive addresses from `first` on, one for each record of the list.

@@ -6,7 +6,7 @@ use Prim.Native.Nat.{ℕ, _+_, _-_, _*_, _≤_, _<_}
 use lib.Dec.{eqb}
 use lib.ListN.{length, getD, take, drop}
 use Rattle.design.specs.Count.{count}
-use Rattle.placement.specs.declared.fast.Split.{Split}
+use Rattle.placement.specs.declared.unchecked.Split.{Split}
 use Rattle.placement.specs.Slots.{positionOf}
 use Rattle.placement.specs.Layout.{splitOf}
 use Rattle.layout.specs.Text.{lineEnd, colon, decimal, spaced, joined}

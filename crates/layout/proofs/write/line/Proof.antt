@@ -3,7 +3,7 @@ use mathlib.Core.List.{List, [], _∷_, _++_}
 use Prim.Native.Nat.{ℕ, _+_, _-_, _*_, _<_}
 use native.Mathlib.Nat.{le-mul-of-pos-right}
 use native.Mathlib.Omega.{arith}
-use Rattle.placement.specs.declared.fast.Split.{Split}
+use Rattle.placement.specs.declared.unchecked.Split.{Split}
 use Rattle.placement.specs.Layout.{splitOf}
 use Rattle.layout.specs.Text.{lineEnd, decimal}
 use Rattle.layout.specs.inner.Steps.{Fits, Put, entryWord, dataWords, baseOf, rankedLine}

@@ -1,4 +1,4 @@
--- `placement::fast::stands_at` meets its contract: the entry that is found gives the tuple and the position.
+-- `placement::unchecked::stands_at` meets its contract: the entry that is found gives the tuple and the position.
 -- The shelf, whose table is lent, is t1 in the walk. Assumes nothing.
 use mathlib.Core.Path.{_≡_, sym, ap, _∙_}
 use mathlib.Core.Logic.{_≢_}
@@ -17,8 +17,8 @@ use Rattle.placement.proofs.Stands.{stands-parity, stands-data}
 use Rattle.placement.proofs.Bounds.{bounds}
 use Rattle.placement.proofs.Flat.{some-left, stripe-found, position-found}
 use Rattle.placement.proofs.Splits.{split-asks, split-parity}
-use Rattle.placement.proofs.fast.stands_at.Statement.{statement}
-use Rattle.placement.proofs.fast.stands_at.Tie as tie
+use Rattle.placement.proofs.unchecked.stands_at.Statement.{statement}
+use Rattle.placement.proofs.unchecked.stands_at.Tie as tie
 
 abbrev L : tie.Start → Layout
 L s = layoutIn (s .args .t1)

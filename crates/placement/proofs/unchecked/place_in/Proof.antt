@@ -1,4 +1,4 @@
--- `placement::fast::place_in` meets its contract: the entries of the tuples before are counted, and the offset is below the units of a disk.
+-- `placement::unchecked::place_in` meets its contract: the entries of the tuples before are counted, and the offset is below the units of a disk.
 -- The shelf, whose table is lent, is t1 in the walk. Assumes nothing.
 use mathlib.Core.Path.{_≡_, _∙_}
 use Prim.Native.Nat.{ℕ, _+_, _*_, _^_, _<_}
@@ -10,8 +10,8 @@ use Rattle.design.specs.Shelf.{designIn}
 use Rattle.placement.specs.Layout.{placeIn}
 use Rattle.placement.proofs.Flat.{times-before}
 use Rattle.placement.proofs.Splits.{entry-fits, offset-fits}
-use Rattle.placement.proofs.fast.place_in.Statement.{statement}
-use Rattle.placement.proofs.fast.place_in.Tie as tie
+use Rattle.placement.proofs.unchecked.place_in.Statement.{statement}
+use Rattle.placement.proofs.unchecked.place_in.Tie as tie
 
 entry : (s : tie.Start) → s .args .at .tuple * s .args .t1 .k + s .args .position < 2048
 entry s = entry-fits (s .args .t1) (s .pre .0) (s .args .at) (s .pre .1) (s .args .position) (s .pre .2)

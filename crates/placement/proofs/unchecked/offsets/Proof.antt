@@ -1,9 +1,9 @@
--- `placement::fast::offsets` meets its contract: the units of a disk are below 2 ^ 27. Assumes nothing.
+-- `placement::unchecked::offsets` meets its contract: the units of a disk are below 2 ^ 27. Assumes nothing.
 use native.Mathlib.Omega.{arith}
 use borrow.Author.Needs.{needs}
 use Rattle.placement.proofs.Bounds.{bounds}
-use Rattle.placement.proofs.fast.offsets.Statement.{statement}
-use Rattle.placement.proofs.fast.offsets.Tie as tie
+use Rattle.placement.proofs.unchecked.offsets.Statement.{statement}
+use Rattle.placement.proofs.unchecked.offsets.Tie as tie
 
 mul-result : tie.Need-mul-result
 mul-result c = omega (arith, bounds _ (c .before .pre))

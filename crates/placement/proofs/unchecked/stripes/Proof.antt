@@ -1,9 +1,9 @@
--- `placement::fast::stripes` meets its contract: the stripes are below 2 ^ 27. Assumes nothing.
+-- `placement::unchecked::stripes` meets its contract: the stripes are below 2 ^ 27. Assumes nothing.
 use native.Mathlib.Omega.{arith}
 use borrow.Author.Needs.{needs}
 use Rattle.placement.proofs.Bounds.{bounds}
-use Rattle.placement.proofs.fast.stripes.Statement.{statement}
-use Rattle.placement.proofs.fast.stripes.Tie as tie
+use Rattle.placement.proofs.unchecked.stripes.Statement.{statement}
+use Rattle.placement.proofs.unchecked.stripes.Tie as tie
 
 mul-result : tie.Need-mul-result
 mul-result c = omega (arith, bounds _ (c .before .pre))

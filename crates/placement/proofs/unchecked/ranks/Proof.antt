@@ -1,4 +1,4 @@
--- `placement::fast::ranks` meets its contract. The loop's invariant: the entries passed are counted and ranked. The measure is what is
+-- `placement::unchecked::ranks` meets its contract. The loop's invariant: the entries passed are counted and ranked. The measure is what is
 -- left of n. Assumes nothing.
 use mathlib.Core.Path.{_≡_, refl, subst}
 use Prim.Native.Nat.{ℕ, _-_, _≤_, _<_}
@@ -9,8 +9,8 @@ use Rattle.design.proofs.Reading.{Filled, filled-none, filled-more}
 use Rattle.placement.specs.Entries.{isDisk, rankIn, ranksOf}
 use Rattle.placement.proofs.PerEntry.{filled-per-entry}
 use Rattle.placement.proofs.Ranks.{Counted, counted-none, counted-next}
-use Rattle.placement.proofs.fast.ranks.Statement.{statement}
-use Rattle.placement.proofs.fast.ranks.Tie as tie
+use Rattle.placement.proofs.unchecked.ranks.Statement.{statement}
+use Rattle.placement.proofs.unchecked.ranks.Tie as tie
 
 abbrev Inv-loop : tie.InvT-loop
 Inv-loop table n counts₀ ranks₀ i₀ counts ranks i =

@@ -1,4 +1,4 @@
--- `placement::fast::spot` meets its contract: the places are those of the data's position and of the parity's. Assumes nothing.
+-- `placement::unchecked::spot` meets its contract: the places are those of the data's position and of the parity's. Assumes nothing.
 use mathlib.Core.Path.{_≡_, ap, _∙_}
 use Prim.Native.Nat.{ℕ}
 use native.Mathlib.Omega.{arith}
@@ -10,8 +10,8 @@ use Rattle.placement.proofs.Position.{parity-lt, position-lt}
 use Rattle.placement.proofs.Stands.{j-lt, stripe-below}
 use Rattle.placement.proofs.Bounds.{bounds}
 use Rattle.placement.proofs.Splits.{split-asks, split-of-in, split-parity, split-place}
-use Rattle.placement.proofs.fast.spot.Statement.{statement}
-use Rattle.placement.proofs.fast.spot.Tie as tie
+use Rattle.placement.proofs.unchecked.spot.Statement.{statement}
+use Rattle.placement.proofs.unchecked.spot.Tie as tie
 
 -- ---- the layout, and the stripe and the data of the address
 

@@ -1,4 +1,4 @@
--- `placement::fast::entries` meets its contract: the entries found are those passed. Assumes nothing.
+-- `placement::unchecked::entries` meets its contract: the entries found are those passed. Assumes nothing.
 use mathlib.Core.Path.{_≡_, subst}
 use mathlib.Core.Logic.{⊎-elim}
 use Prim.Native.Nat.{ℕ, _-_, _≤_, _<_}
@@ -9,8 +9,8 @@ use Rattle.design.proofs.Reading.{Filled}
 use Rattle.placement.specs.Entries.{isDisk, perEntry, entriesOf}
 use Rattle.placement.proofs.PerEntry.{filled-per-entry}
 use Rattle.placement.proofs.Listing.{Listing, listing-none, listing-same, listing-more, listing-le}
-use Rattle.placement.proofs.fast.entries.Statement.{statement}
-use Rattle.placement.proofs.fast.entries.Tie as tie
+use Rattle.placement.proofs.unchecked.entries.Statement.{statement}
+use Rattle.placement.proofs.unchecked.entries.Tie as tie
 
 abbrev Inv-loop : tie.InvT-loop
 Inv-loop table n d entries₀ found₀ i₀ entries found i = (i ≤ n) × Listing table d i entries found

@@ -1,12 +1,12 @@
--- `placement::fast::split_of` meets its contract: no divisor is zero, and the copy is below k. Assumes nothing.
+-- `placement::unchecked::split_of` meets its contract: no divisor is zero, and the copy is below k. Assumes nothing.
 use mathlib.Core.Path.{refl}
 use Prim.Native.Nat.{_*_, _/_, _%_, _<_}
 use native.Mathlib.Nat.{mul-pos, mod-lt, div-lt-iff-lt-mul}
 use native.Mathlib.Omega.{arith}
 use borrow.Author.Needs.{needs}
 use Rattle.placement.specs.Layout.{splitOf}
-use Rattle.placement.proofs.fast.split_of.Statement.{statement}
-use Rattle.placement.proofs.fast.split_of.Tie as tie
+use Rattle.placement.proofs.unchecked.split_of.Statement.{statement}
+use Rattle.placement.proofs.unchecked.split_of.Tie as tie
 
 -- there are tuples, and a stripe of them is in one of k copies
 some : (c : tie.Start) → 0 < c .args .b * c .args .k

@@ -1,10 +1,10 @@
--- `placement::fast::addresses` meets its contract: the addresses are below 2 ^ 31. Assumes nothing.
+-- `placement::unchecked::addresses` meets its contract: the addresses are below 2 ^ 31. Assumes nothing.
 use mathlib.Core.Path.{refl}
 use native.Mathlib.Omega.{arith}
 use Rattle.placement.proofs.Even.{even-shelf}
 use Rattle.placement.proofs.Bounds.{bounds}
-use Rattle.placement.proofs.fast.addresses.Statement.{statement}
-use Rattle.placement.proofs.fast.addresses.Tie as tie
+use Rattle.placement.proofs.unchecked.addresses.Statement.{statement}
+use Rattle.placement.proofs.unchecked.addresses.Tie as tie
 
 returns : tie.Need-returns
 returns c = refl
