@@ -106,10 +106,6 @@ pub sheet-packed : (h : Shelf) → sheet_in h
 unfolding sheet_in header_in bits_of
 sheet-packed h = packed-append (replicate (sheet_length (h.b * h.k)) 0) 0 (header_in h) (numbers_in (take (h.b * h.k) h.table))
 
--- what a function is told of a shelf that is passed to it says that the table is whole
-pub table-length : (h : Shelf) (vs : List Val) → Is (row the_type) h vs → length h.table ≡ 2048
-table-length h vs g = sym (length-map h.table (λ x. x)) ∙ g.1.1.1.1.1.1.1.1.1.0.1.0.1
-
 -- ---- writing back, way by way
 
 module _ (h : Shelf) (buffer : List ℕ) where

@@ -1,4 +1,5 @@
 // The design: the sheet, the shelf value, and the rules of a balanced design (document 01, "The sheet").
+#![tactic(auto)]
 ghost use Rattle.std.specs.Prelude.{◌≡◌};
 ghost use Rattle.design.specs.Refusals.{number};
 ghost use Rattle.design.specs.Loss.{no_loss, disk_loss};
@@ -13,7 +14,7 @@ mod rules;
 mod tally;
 
 // Why a call is refused: a variant for each row of document 01, "Numbers a caller can get".
-#[derive(Drop)]
+#[derive(Clone, Copy)]
 pub enum Refusal {
     ShortSheet,
     OtherEdition,
@@ -34,6 +35,7 @@ pub enum Refusal {
 
 impl Refusal {
     // The number of document 01.
+    #[tactic(auto, unfolding(crate::specs::Refusals::number))]
     pub fn number(self) -> usize
         ensures { result ≡ number self }
     {
@@ -58,21 +60,21 @@ impl Refusal {
     }
 }
 
-#[derive(Drop)]
+#[derive(Clone, Copy)]
 pub enum Verdict {
     Accepted,
     Refused(Refusal),
 }
 
 // Which disk is lost, if any.
-#[derive(Drop)]
+#[derive(Clone, Copy)]
 pub enum Lost {
     Nothing,
     Disk(u8),
 }
 
 // What a shelf has lost: the one part of it that calls change.
-#[derive(Drop)]
+#[derive(Clone, Copy)]
 pub struct Loss {
     pub lost: Lost,
 }
@@ -98,7 +100,7 @@ impl Loss {
 }
 
 // The disk that stands twice in a tuple, if any.
-#[derive(Drop)]
+#[derive(Clone, Copy)]
 pub enum Repeat {
     Disk(u8),
     Nothing,
@@ -109,7 +111,7 @@ pub type Table = [u8; Shelf::PLACES_MOST];
 
 // A shelf value: the numbers of its sheet, what opening counted, the disk numbers tuple after tuple (zero past b·k),
 // and what is lost.
-#[derive(Drop)]
+#[derive(Clone, Copy)]
 pub struct Shelf {
     pub v: usize,
     pub k: usize,
@@ -123,13 +125,13 @@ pub struct Shelf {
 }
 
 // What opening gives. An enum may hold no array, so the shelf stands beside the verdict.
-#[derive(Drop)]
+#[derive(Clone, Copy)]
 pub struct Opened {
     pub verdict: Verdict,
     pub shelf: Shelf,
 }
 
-#[derive(Drop)]
+#[derive(Clone, Copy)]
 pub enum WriteBack {
     // The sheet's length in bytes.
     Length(usize),

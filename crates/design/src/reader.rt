@@ -5,14 +5,14 @@ ghost use Rattle.design.specs.Sheet.{edition_of, v_of, k_of, b_of, t_of, u_of};
 
 use fields::Found;
 
-#[derive(Drop)]
+#[derive(Clone, Copy)]
 pub struct Reader<'a> {
     pub sheet: &'a [u8],
     pub bit: usize,
 }
 
 // The numbers of the header.
-#[derive(Drop)]
+#[derive(Clone, Copy)]
 pub struct Header {
     pub edition: usize,
     pub v: usize,
@@ -56,12 +56,12 @@ impl<'a> Reader<'a> {
 // The header, read field after field. Its parameter is a plain slice, so that its callers need not know the reader.
 pub fn read_header(sheet: &[u8]) -> Header
     requires { 6 ≤ length sheet.now }
-    ensures { (result.edition ≡ editionOf sheet.now)
-        × (result.v ≡ vOf sheet.now)
+    ensures { (result.edition ≡ edition_of sheet.now)
+        × (result.v ≡ v_of sheet.now)
         × (result.k ≡ k_of sheet.now)
-        × (result.b ≡ bOf sheet.now)
-        × (result.T ≡ TOf sheet.now)
-        × (result.u ≡ uOf sheet.now) }
+        × (result.b ≡ b_of sheet.now)
+        × (result.T ≡ t_of sheet.now)
+        × (result.u ≡ u_of sheet.now) }
 {
     let mut reader = Reader::new(sheet);
     let edition = reader.take(4);

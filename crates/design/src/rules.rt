@@ -112,6 +112,7 @@ pub fn zero_past(table: &Table, n: usize) -> bool
     any == 0
 }
 
+#[tactic(auto, unfolding(crate::specs::Loss::loss_below))]
 fn loss_below(loss: Loss, v: usize) -> bool
     ensures { result ≡ loss_below loss v }
 {

@@ -12,9 +12,7 @@ use lib.ListN.{length, get_or}
 use lib.Pow.{pow_pos}
 use lib.Seq.{ext_get_or}
 use Rattle.fields.specs.declared.Found.{Found}
-use Rattle.fields.specs.declared.Found.TheVariants as Found
 use Rattle.fields.specs.declared.Stored.{Stored}
-use Rattle.fields.specs.declared.Stored.TheVariants as Stored
 use Rattle.fields.specs.Field.{bit_at, field, with_field, is_field, found, takes, Wrote}
 use Rattle.fields.proofs.Bits.{half-div, last_div, zero_bit}
 use Rattle.fields.proofs.Writes.{IsBytes, Inside, bit-lt, bit_out, bit_in}

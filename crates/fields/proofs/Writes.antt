@@ -9,10 +9,6 @@ use native.Mathlib.Omega.{arith}
 use lib.ListN.{length, get_or, length-set}
 use lib.Pow.{pow_mono}
 use lib.Seq.{get_or-set_same, get_or-set_other, set_out}
-use Rattle.fields.specs.declared.Found.{Found}
-use Rattle.fields.specs.declared.Found.TheVariants as Found
-use Rattle.fields.specs.declared.Stored.{Stored}
-use Rattle.fields.specs.declared.Stored.TheVariants as Stored
 use Rattle.fields.specs.Field.{bit_at, field, with_bit, with_field}
 use Rattle.fields.proofs.Bits.{put_bit, put_bit_same, put_bit-other, put_bit-lt, half-div, last_div}
 

@@ -1,9 +1,7 @@
 -- A bit field, most significant bit first (document 01, "The sheet"): which bits it has, and what reading and writing it do.
 use Rattle.std.specs.Prelude.{◌≡◌, Bool, cond, ◌&&◌, List, ℕ, zero, suc, ◌+◌, ◌-◌, ◌*◌, ◌/◌, ◌%◌, ◌^◌, leb, ltb, length, get_or, set}
 use Rattle.fields.specs.declared.Found.{Found}
-use Rattle.fields.specs.declared.Found.TheVariants as Found
 use Rattle.fields.specs.declared.Stored.{Stored}
-use Rattle.fields.specs.declared.Stored.TheVariants as Stored
 
 -- bit i of the bytes; bit 0 is the most significant of the first byte
 unfoldable pub bit_at : List ℕ → ℕ → ℕ

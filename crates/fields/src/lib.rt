@@ -1,16 +1,18 @@
 // Bit fields of a byte slice, most significant bit first (document 01, "The sheet").
+#![tactic(auto)]
+
 ghost use Rattle.std.specs.Prelude.{◌≡◌, ◌+◌, ◌-◌, ◌*◌, ◌/◌, ◌%◌, ◌^◌, ◌<◌};
 ghost use Rattle.fields.specs.Field.{is_field, found, Wrote};
 
 // What stands in a field.
-#[derive(Drop)]
+#[derive(Clone, Copy)]
 pub enum Found {
     Value(usize),
     // No field: its width is not 1 to 32, or it is not wholly inside the bytes.
     NoField,
 }
 
-#[derive(Drop)]
+#[derive(Clone, Copy)]
 pub enum Stored {
     Done,
     // No field, or one too narrow for the value.

@@ -1,5 +1,7 @@
 // The calls for hosts written in C or Rust. A shelf value is lent as bytes; a slice passes as a pointer and a length; a call
 // gives 0 or the refusal's number.
+#![tactic(auto)]
+
 pub mod losing;
 mod numbers;
 pub mod places;

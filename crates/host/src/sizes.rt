@@ -7,7 +7,7 @@ ghost use Rattle.host.specs.Sheets.{sized, sheet_size};
 use crate::value;
 use placement::unchecked;
 
-#[derive(Drop)]
+#[derive(Clone, Copy)]
 struct Sizes {
     sheet: usize,
     image: usize,
@@ -18,12 +18,12 @@ struct Sizes {
 }
 
 fn measure(shelf: &[u8]) -> Sizes
-    ensures { (result.sheet ≡ sized sheetSize shelf.now)
-        × (result.image ≡ sized imageSize shelf.now)
-        × (result.unit ≡ sized unitSize shelf.now)
-        × (result.stripes ≡ sized (λ h. stripes (layoutIn h)) shelf.now)
-        × (result.addresses ≡ sized (λ h. addresses (layoutIn h)) shelf.now)
-        × (result.offsets ≡ sized (λ h. offsets (layoutIn h)) shelf.now) }
+    ensures { (result.sheet ≡ sized sheet_size shelf.now)
+        × (result.image ≡ sized image_size shelf.now)
+        × (result.unit ≡ sized unit_size shelf.now)
+        × (result.stripes ≡ sized (λ h. stripes (layout_in h)) shelf.now)
+        × (result.addresses ≡ sized (λ h. addresses (layout_in h)) shelf.now)
+        × (result.offsets ≡ sized (λ h. offsets (layout_in h)) shelf.now) }
 {
     let taken = value::shelf(shelf);
     if !taken.is_shelf() {

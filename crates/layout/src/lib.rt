@@ -1,5 +1,7 @@
 // The text of a layout (document 01, "The layout program"): its first line and the lines of its stripes, into lent buffers. A
 // layout of many stripes is printed part by part, each part with one test of the shelf and one pass over its table.
+#![tactic(auto)]
+
 ghost use Rattle.std.specs.Prelude.{◌≡◌};
 ghost use Rattle.placement.specs.Layout.{layout_in};
 ghost use Rattle.layout.specs.Text.{first_line, lines_from, refused_line};
@@ -15,14 +17,14 @@ mod write;
 pub const LINE_ROOM: usize = 256;
 
 // An opened sheet: 0, its shelf and its stripes, or the refusal's number, the empty shelf and no stripe.
-#[derive(Drop)]
+#[derive(Clone, Copy)]
 pub struct Start {
     pub number: usize,
     pub shelf: Shelf,
     pub stripes: usize,
 }
 
-#[derive(Drop)]
+#[derive(Clone, Copy)]
 pub enum Text {
     // The text's length in bytes.
     Length(usize),

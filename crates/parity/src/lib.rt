@@ -1,4 +1,6 @@
 // Parity: the stored bytes of a shelf (document 01, "The shelf value and the calls").
+#![tactic(auto)]
+
 ghost use Rattle.std.specs.Prelude.{◌≡◌};
 ghost use Rattle.parity.specs.Calls.{Blanked, ReadOut, Wrote, WroteStripe, lost, Rebuilt, scrubbed, place_shown, address_shown};
 
@@ -19,7 +21,7 @@ mod units;
 mod whole;
 
 // The numbers by which the units of a stripe are found: k, b and r of the shelf, the units of a disk and the bytes of a unit.
-#[derive(Drop)]
+#[derive(Clone, Copy)]
 struct Shape {
     k: usize,
     b: usize,
@@ -29,21 +31,21 @@ struct Shape {
 }
 
 // What a unit write, a stripe write or a read answers: the units read and written, none where it is refused.
-#[derive(Drop)]
+#[derive(Clone, Copy)]
 pub struct Cost {
     pub verdict: Verdict,
     pub read: usize,
     pub written: usize,
 }
 
-#[derive(Drop)]
+#[derive(Clone, Copy)]
 pub struct Losing {
     pub verdict: Verdict,
     pub shelf: Shelf,
 }
 
 // What a rebuild answers: the shelf with no disk lost, and the units read from each disk.
-#[derive(Drop)]
+#[derive(Clone, Copy)]
 pub struct Rebuilding {
     pub verdict: Verdict,
     pub shelf: Shelf,
@@ -51,7 +53,7 @@ pub struct Rebuilding {
 }
 
 // The number of wrong stripes.
-#[derive(Drop)]
+#[derive(Clone, Copy)]
 pub struct Scrubbing {
     pub verdict: Verdict,
     pub wrong: usize,

@@ -15,7 +15,7 @@ use placement::unchecked;
 
 // Where the unit of an address stands: its stripe and its index there, and the numbers in the image of the unit and of the stripe's
 // parity.
-#[derive(Drop)]
+#[derive(Clone, Copy)]
 struct Standing {
     stripe: usize,
     index: usize,

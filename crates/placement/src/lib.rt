@@ -1,4 +1,6 @@
 // Placement: the place of each address, what stands at a place, and runs of places (document 01, "Where a unit stands").
+#![tactic(auto)]
+
 ghost use Rattle.std.specs.Prelude.{◌≡◌, true, ◌+◌, ◌<◌};
 ghost use Rattle.design.specs.Refusals.{first_broken};
 ghost use Rattle.design.specs.Shelf.{is_shelf};
@@ -12,7 +14,7 @@ mod slots;
 pub mod unchecked;
 
 // The place of an address and of its stripe's parity: one record of a run.
-#[derive(Drop)]
+#[derive(Clone, Copy)]
 pub struct Spot {
     pub disk: usize,
     pub offset: usize,
@@ -20,14 +22,14 @@ pub struct Spot {
     pub parity_offset: usize,
 }
 
-#[derive(Drop)]
+#[derive(Clone, Copy)]
 pub enum Placing {
     At(Spot),
     Refused(Refusal),
 }
 
 // What stands at a place: data, with its stripe and its address, or a stripe's parity.
-#[derive(Drop)]
+#[derive(Clone, Copy)]
 pub enum LookUp {
     Data { stripe: usize, address: usize },
     Parity(usize),

@@ -10,7 +10,7 @@ use crate::{LookUp, Spot, seek};
 use design::{Shelf, Table};
 
 // The split of a stripe, and the parity's position in it.
-#[derive(Drop)]
+#[derive(Clone, Copy)]
 pub struct Split {
     pub full_table: usize,
     pub copy: usize,
@@ -18,7 +18,7 @@ pub struct Split {
     pub parity: usize,
 }
 
-#[derive(Drop)]
+#[derive(Clone, Copy)]
 pub struct Place {
     pub disk: usize,
     pub offset: usize,

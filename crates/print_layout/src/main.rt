@@ -1,5 +1,7 @@
 // Prints the layout of the sheet on standard input (document 01, "The layout program"): the sheet is read to its end and the
 // library's text is written through a buffer. A write that fails, as to a closed pipe or a full disk, ends the program.
+#![tactic(auto)]
+
 ghost use Rattle.std.specs.Prelude.{◌≡◌, min};
 
 use layout::{Start, Text};

@@ -79,7 +79,7 @@ pub const REBUILD: usize = 35;
 pub const NONE: usize = 36;
 
 // What a line asks: the command, its last three numbers with c the last of all, and which word is its bytes, 0 for none.
-#[derive(Drop)]
+#[derive(Clone, Copy)]
 pub struct Call {
     pub command: usize,
     pub a: usize,

@@ -7,7 +7,7 @@ pub const MOST: usize = 16384;
 // The most pending bytes.
 pub const PENDING_MOST: usize = 2048;
 
-#[derive(Drop)]
+#[derive(Clone, Copy)]
 pub struct Held {
     // The current shelf.
     pub shelf: Shelf,

@@ -61,6 +61,8 @@
 // Any other line is printed after `? `, and so is one whose number is too large for its command.
 //
 // A new command has a pattern and a number in the module commands, and an arm in steps or images.
+#![tactic(auto)]
+
 mod answers;
 mod bits;
 mod commands;

@@ -10,7 +10,7 @@ use placement::Spot;
 const MOST: usize = 32;
 
 // What a run answered, and the array after it of which it was lent the first records.
-#[derive(Drop)]
+#[derive(Clone, Copy)]
 struct Lent {
     verdict: Verdict,
     list: [Spot; MOST],

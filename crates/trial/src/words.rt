@@ -4,7 +4,7 @@ ghost use Rattle.std.specs.Prelude.{◌*◌, ◌≤◌, ◌<◌, length};
 
 use bytes::scan;
 
-#[derive(Drop)]
+#[derive(Clone, Copy)]
 pub enum Parsed {
     Value(usize),
     Wrong,
