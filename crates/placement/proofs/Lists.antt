@@ -46,10 +46,10 @@ filled_is (Refused x) h first list = refl
 
 -- ---- how many turns there are
 
-pub length-by-le : (v : Verdict) (n : ℕ) → length_by v n ≤ n
+pub length_by-le : (v : Verdict) (n : ℕ) → length_by v n ≤ n
 unfolding length_by
-length-by-le Accepted n = omega arith
-length-by-le (Refused x) n = omega arith
+length_by-le Accepted n = omega arith
+length_by-le (Refused x) n = omega arith
 
 -- a turn is of an accepted run
 pub written_accepted : (v : Verdict) (n i : ℕ) → i < length_by v n → v ≡ Accepted

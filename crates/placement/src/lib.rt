@@ -84,6 +84,7 @@ pub fn run_verdict(shelf: Shelf, first: usize, n: usize) -> Verdict
 }
 
 // How many of n records a run writes: none where it is refused.
+#[tactic(auto, unfolding(crate::specs::Placed::length_by))]
 fn run_length(verdict: Verdict, n: usize) -> usize
     ensures { result ≡ length_by verdict n }
 {
