@@ -1,6 +1,6 @@
 -- A store to a unit of a stripe, and a test of units taken apart where it says which of them are present. Assumes nothing.
 use mathlib.Core.Path.{◌≡◌, refl, sym, ap, ap₂, ◌∙◌}
-use mathlib.Core.Bool.{Bool, true, false, cond, ◌&&◌, ◌||◌, or_false, or_self}
+use mathlib.Core.Bool.{Bool, true, false, cond, ◌&&◌, ◌||◌, or-false, or_self}
 use mathlib.Core.List.{List}
 use Prim.Native.Nat.{ℕ, ◌<◌}
 use lib.Dec.{eqb}
@@ -24,7 +24,7 @@ pub spread : (a b c : Bool) {r p q : Bool} → ((a && b) ≡ true → p ≡ r) �
     → ((a && b && p) || (a && c && q)) ≡ (a && (b || c) && r)
 spread false b c P Q = refl
 spread true true true {r} P Q = rw (P refl, Q refl) (or_self r)
-spread true true false {r} P Q = rw (P refl) (or_false r)
+spread true true false {r} P Q = rw (P refl) (or-false r)
 spread true false true P Q = Q refl
 spread true false false P Q = refl
 

@@ -1,7 +1,7 @@
 -- The one or two stores of a unit write come to what it leaves. Assumes nothing.
 use mathlib.Core.Path.{◌≡◌, refl, ap, ◌∙◌}
 use mathlib.Core.Logic.{◌≢◌}
-use mathlib.Core.Bool.{Bool, true, false, cond, ◌&&◌, ◌||◌, and-true, and-false, or_false}
+use mathlib.Core.Bool.{Bool, true, false, cond, ◌&&◌, ◌||◌, and-true, and-false, or-false}
 use mathlib.Core.List.{List}
 use Prim.Native.Nat.{ℕ, ◌-◌, ◌<◌}
 use native.Mathlib.Omega.{arith}
@@ -66,7 +66,7 @@ module _ (h : Shelf) (ok : is_shelf h ≡ true) (image : List ℕ) (len : length
     pub write_both : present h (unit_in h s j) ≡ true → present h (unit_in h s (h.k - 1)) ≡ true
         → put_unit (unit_size h) (put_unit (unit_size h) image (unit_in h s (h.k - 1)) (new_parity h image s j x)) (unit_in h s j) x ≡ unit_written h image s j x
     write_both p q =
-        is_written _ _ (data_stored _ _ (parity_stored _ _ (patched_none h image new len))) (λ n. rw (p, q) (simp (and-true, or_false)))
+        is_written _ _ (data_stored _ _ (parity_stored _ _ (patched_none h image new len))) (λ n. rw (p, q) (simp (and-true, or-false)))
 
     pub write_data : present h (unit_in h s j) ≡ true → present h (unit_in h s (h.k - 1)) ≡ false
         → put_unit (unit_size h) image (unit_in h s j) x ≡ unit_written h image s j x
@@ -75,4 +75,4 @@ module _ (h : Shelf) (ok : is_shelf h ≡ true) (image : List ℕ) (len : length
     pub write_parity : present h (unit_in h s j) ≡ false → present h (unit_in h s (h.k - 1)) ≡ true
         → put_unit (unit_size h) image (unit_in h s (h.k - 1)) (new_parity h image s j x) ≡ unit_written h image s j x
     write_parity p q =
-        is_written _ _ (parity_stored _ _ (patched_none h image new len)) (λ n. rw (p, q) (simp (and-true, and-false, or_false)))
+        is_written _ _ (parity_stored _ _ (patched_none h image new len)) (λ n. rw (p, q) (simp (and-true, and-false, or-false)))

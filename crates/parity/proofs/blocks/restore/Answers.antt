@@ -1,0 +1,57 @@
+-- `parity::blocks::restore` meets its contract. The loop's invariant: the blocks of unit i before block q are restored. Assumes nothing.
+use mathlib.Core.Path.{◌≡◌, sym, ap, ◌∙◌}
+use Prim.Native.Nat.{ℕ, ◌+◌, ◌-◌, ◌*◌, ◌≤◌}
+use native.Mathlib.Omega.{arith}
+use lib.ListN.{length}
+use Rattle.parity.specs.inner.Blocks.{rest_of, numbered, blocks_at, Within}
+use Rattle.parity.proofs.Rest.{rest_size}
+use Rattle.parity.proofs.ByBlocks.{Filled, filled_none, filled_fits, filled_within, filled-rest, filled_next, filled-all}
+use Rattle.parity.proofs.blocks.restore.Goals as goal
+use Rattle.parity.proofs.blocks.restore.Goals.{After-rest-block, In-loop-q, Start}
+
+abbrev number : Start → ℕ → ℕ
+number start = numbered start.args.numbers.now
+
+-- unit i lies within the image
+inside : (start : Start) → number start start.args.i * (start.args.per * 128) + start.args.per * 128 ≤ length start.args.image.now
+inside start = start.requires.within _ start.requires.k_bound.1
+
+pub bounds-numbers-i : goal.bounds-numbers-i
+bounds-numbers-i c = omega (arith, c.requires.k_bound)
+
+pub overflow_mul-at : goal.overflow_mul-at
+overflow_mul-at c = omega (arith, inside (goal.at.overflow_mul-at c).Start)
+
+pub loop-q-init : goal.loop-q-init
+loop-q-init c = filled_none _ _ _ _ _ (rest_size _ _ (number (goal.at.loop-q-init c).Start) _ c.requires.within c.args.i) (inside (goal.at.loop-q-init c).Start)
+
+within : (turn : In-loop-q) → Within 128 (blocks_at (number (goal.at.In-loop-q turn).Start) turn.args.per turn.loop-q.q) turn.args.k (length turn.loop-q.image)
+within turn = filled_within turn.loop-q.invariant (number (goal.at.In-loop-q turn).Start) _ turn.requires.within turn.loop-q-test.true
+
+pub rest-block-requires : goal.rest-block-requires
+rest-block-requires c = record { k_bound = c.requires.k_bound.0; within = within c }
+
+pub overflow_add-at : goal.overflow_add-at
+overflow_add-at c = omega (arith, filled_fits c.loop-q.invariant c.loop-q-test.true)
+
+sized : (c : After-rest-block) → length c.rest-block.result ≡ 128
+sized c = ap length c.rest-block.ensures ∙ rest_size 128 _ _ _ (within (goal.at.After-rest-block c).In-loop-q) _
+
+pub slice_bounds-store-end : goal.slice_bounds-store-end
+slice_bounds-store-end c = sym (sized (goal.at.slice_bounds-store-end c).After-rest-block)
+
+pub store-requires : goal.store-requires
+store-requires c =
+    rw (sized (goal.at.store-requires c).After-rest-block) (omega (arith, filled_fits c.loop-q.invariant c.loop-q-test.true))
+
+pub loop-q-preserved : goal.loop-q-preserved
+loop-q-preserved c =
+    let inv = c.loop-q.invariant in
+    filled_next inv c.loop-q-test.true (rw (sized (goal.at.loop-q-preserved c).After-rest-block) at c.store.ensures)
+    (filled-rest inv (number (goal.at.loop-q-preserved c).Start) _ c.requires.within c.loop-q-test.true c.args.i c.rest-block.ensures)
+
+pub shape_of-image : goal.shape_of-image
+shape_of-image c = c.loop-q.invariant.begun.same
+
+pub returns : goal.returns
+returns c = filled-all c.loop-q.invariant c.loop-q-test.false
