@@ -1,10 +1,12 @@
 // Prints the layout of the sheet on standard input (document 01, "The layout program"): the sheet is read to its end and the
-// library's text is written through a buffer. A write that fails, as to a closed pipe or a full disk, ends the program.
+// library's text is written through a buffer. A write that fails, as to a closed pipe or a full disk, ends the program, and a read
+// that fails ends the sheet.
 #![tactic(auto)]
 
-ghost use Rattle.std.specs.Prelude.{◌≡◌, min};
+ghost use Rattle.std.specs.Prelude.{◌≡◌, ◌≤◌, length, min};
 
 use layout::{Start, Text};
+use std::io::{Read, Write};
 
 // One byte more than the longest sheet, so that a longer input is refused for its length too.
 const SHEET_MOST: usize = 1543;
@@ -14,8 +16,23 @@ const LINES_MOST: usize = 1024;
 
 const BUFFER_SIZE: usize = LINES_MOST * layout::LINE_ROOM;
 
+// Reads until the buffer is full, the input ends or a read fails, and answers how many bytes are at the start of the buffer. A
+// read may give fewer bytes than there is room for, as from a pipe.
+fn read_full<R: Read>(input: &mut R, buffer: &mut [u8]) -> usize
+    ensures { result ≤ length buffer.new }
+{
+    let mut done = 0;
+    while done < buffer.len() {
+        match input.read(&mut buffer[done..]) {
+            Ok(0) | Err(_) => return done,
+            Ok(n) => done += n,
+        }
+    }
+    done
+}
+
 // Writes the text at the start of the buffer, and answers whether to go on.
-fn put(text: Text, buffer: &[u8]) -> bool {
+fn put<W: Write>(output: &mut W, text: Text, buffer: &[u8]) -> bool {
     let Text::Length(length) = text else {
         return false;
     };
@@ -23,7 +40,7 @@ fn put(text: Text, buffer: &[u8]) -> bool {
     if buffer.len() < length {
         return false;
     }
-    io::write_all(libc::STDOUT_FILENO, &buffer[..length])
+    output.write_all(&buffer[..length]).is_ok()
 }
 
 fn heading(start: Start, buffer: &mut [u8]) -> Text {
@@ -40,26 +57,26 @@ fn least(a: usize, b: usize) -> usize
     if a < b { a } else { b }
 }
 
-fn print(start: Start, buffer: &mut [u8]) {
+fn print<W: Write>(output: &mut W, start: Start, buffer: &mut [u8]) {
     let first = heading(start, buffer);
-    if !put(first, buffer) {
+    if !put(output, first, buffer) {
         return;
     }
     let mut next = 0;
     while next < start.stripes {
         let n = least(start.stripes - next, LINES_MOST);
         let text = layout::lines(start.shelf, next, n, buffer);
-        if !put(text, buffer) {
+        if !put(output, text, buffer) {
             return;
         }
         next += n;
     }
 }
 
-fn main() {
+fn main(rt: HostRuntime) {
     let mut sheet = [0u8; SHEET_MOST];
-    let length = io::read_full(libc::STDIN_FILENO, &mut sheet);
+    let length = read_full(&mut rt.stdin(), &mut sheet);
     let start = layout::open(&sheet[..length]);
     let mut buffer = [0u8; BUFFER_SIZE];
-    print(start, &mut buffer);
+    print(&mut rt.stdout(), start, &mut buffer);
 }
