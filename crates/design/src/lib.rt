@@ -1,5 +1,6 @@
 // The design: the sheet, the shelf value, and the rules of a balanced design (document 01, "The sheet").
 #![tactic(auto)]
+
 ghost use Rattle.std.specs.Prelude.{◌≡◌};
 ghost use Rattle.design.specs.Refusals.{number};
 ghost use Rattle.design.specs.Loss.{no_loss, disk_loss};

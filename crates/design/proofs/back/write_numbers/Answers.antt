@@ -18,8 +18,7 @@ overflow_cast-table c = omega (arith, c.requires.by_index c.loop-i.i c.loop-i-te
 
 pub loop-i-preserved : goal.loop-i-preserved
 loop-i-preserved c =
-    let l = c.loop-i in
-    (
+    let l = c.loop-i in (
       omega arith,
       number_wrote c.args.sheet.now l.sheet _ c.args.table.now l.i c.args.n _ c.loop-i-test.true (omega arith)
           c.requires.n_bound.2 (c.requires.by_index l.i c.loop-i-test.true) l.invariant.1 c.write.ensures,

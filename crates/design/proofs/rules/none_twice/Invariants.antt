@@ -7,7 +7,6 @@ use Rattle.design.specs.Count.{every}
 use Rattle.design.proofs.Twice.{once_up_to}
 use Rattle.design.proofs.rules.none_twice.Given as goal
 
-
 abbrev pub tuple : List ℕ → ℕ → ℕ → ℕ → ℕ
 tuple table k q p = get_or table (q * k + p) 0
 

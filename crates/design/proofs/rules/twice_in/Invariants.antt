@@ -6,7 +6,6 @@ use lib.ListN.{get_or}
 use Rattle.design.proofs.Twice.{once_up_to}
 use Rattle.design.proofs.rules.twice_in.Given as goal
 
-
 abbrev pub tuple_at : List ℕ → ℕ → ℕ → ℕ
 tuple_at table from p = get_or table (from + p) 0
 

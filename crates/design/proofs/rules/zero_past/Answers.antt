@@ -20,7 +20,6 @@ one_more : (table : List ℕ) (n any i : ℕ) → n ≤ i → ((any ≡ 0) ↔ Z
 one_more table n any i h e = (
   λ z. let both = (or_zero any (get_or table i 0)).0 z in below_more (λ j. n ≤ j → get_or table j 0 ≡ 0) i (e.0 both.0) (λ l. both.1),
   λ z. (or_zero any (get_or table i 0)).1 (e.1 (λ j l. z j (omega arith)), z i (omega arith) h),
-
 )
 
 pub loop-i-init : goal.loop-i-init

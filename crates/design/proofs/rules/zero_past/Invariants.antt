@@ -5,7 +5,6 @@ use Prim.Native.Nat.{ℕ, ◌-◌, ◌≤◌, ◌<◌, max}
 use lib.ListN.{get_or}
 use Rattle.design.proofs.rules.zero_past.Given as goal
 
-
 abbrev pub Zeros : List ℕ → ℕ → ℕ → Type 0
 Zeros table n i = (j : ℕ) → j < i → n ≤ j → get_or table j 0 ≡ 0
 

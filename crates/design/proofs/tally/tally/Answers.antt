@@ -26,12 +26,11 @@ tally_tuple-requires c =
     let h = within (goal.at.tally_tuple-requires c).In-loop-q in record { k_bound = (omega arith, c.loop-q.invariant.1); by_index = λ p l. c.requires.by_index (c.loop-q.q * c.args.k + p) (omega arith); different = c.requires.by_index_2 c.loop-q.q c.loop-q-test.true; by_index_2 = λ d e hd he. omega (arith, c.loop-q.invariant.2 d e hd, shared-le (in_table 0 c.args.k c.args.b c.args.table.now) c.loop-q.q d e) }
 
 pub loop-q-preserved : goal.loop-q-preserved
-loop-q-preserved c =
-    (
-      omega arith,
-      c.tally_tuple.ensures.counts_len,
-      tallied_next 0 c.args.k c.args.b c.args.table.now c.loop-q.q c.loop-q.counts c.tally_tuple.new.counts c.loop-q.invariant.2 c.tally_tuple.ensures.added_tuple,
-    )
+loop-q-preserved c = (
+  omega arith,
+  c.tally_tuple.ensures.counts_len,
+  tallied_next 0 c.args.k c.args.b c.args.table.now c.loop-q.q c.loop-q.counts c.tally_tuple.new.counts c.loop-q.invariant.2 c.tally_tuple.ensures.added_tuple,
+)
 
 pub returns : goal.returns
 returns c =

@@ -45,14 +45,16 @@ add-requires c =
     record { d_bound = (h, c.loop-p.invariant.1); by_index = λ e l. room (goal.at.add-requires c).At-loop-p (tuple (goal.at.add-requires c).Start c.loop-p.p) e h l }
 
 pub loop-p-preserved : goal.loop-p-preserved
-loop-p-preserved c =
-    (
-      omega arith,
-      c.add.ensures.planes_len,
-      rows_next (tuple (goal.at.loop-p-preserved c).Start) c.mask_of-mask.result c.loop-p.p c.args.counts.now c.loop-p.counts c.add.new.planes c.loop-p.invariant.2 c.add.ensures.added_row,
-    )
+loop-p-preserved c = (
+  omega arith,
+  c.add.ensures.planes_len,
+  rows_next (tuple (goal.at.loop-p-preserved c).Start) c.mask_of-mask.result c.loop-p.p c.args.counts.now c.loop-p.counts c.add.new.planes c.loop-p.invariant.2 c.add.ensures.added_row,
+)
 
 pub returns : goal.returns
 returns c =
-    let e : c.loop-p.p ≡ c.args.k = omega arith in record { counts_len = c.loop-p.invariant.1; added_tuple = tuple_added (tuple (goal.at.returns c).Start) c.args.k c.mask_of-mask.result c.args.counts.now c.loop-p.counts c.requires.different c.mask_of-mask.ensures
-          (rw e at c.loop-p.invariant.2) }
+    let e : c.loop-p.p ≡ c.args.k = omega arith in record {
+      counts_len = c.loop-p.invariant.1;
+      added_tuple = tuple_added (tuple (goal.at.returns c).Start) c.args.k c.mask_of-mask.result c.args.counts.now c.loop-p.counts c.requires.different c.mask_of-mask.ensures
+          (rw e at c.loop-p.invariant.2);
+    }

@@ -7,7 +7,7 @@ use Rattle.host.proofs.Spotted.{spots_left}
 use Rattle.host.proofs.places.put_run.Given as goal
 
 abbrev pub invariant-loop-i : goal.invariant-loop-i
-invariant-loop-i l =     (l.i ≤ length l.initial.out / 16) × (length l.out ≡ length l.initial.out) × (spots_left (layout_in l.shelf) l.first (length l.initial.out / 16) l.i l.out ≡ spots_into (layout_in l.shelf) l.first 0 (length l.initial.out / 16) l.initial.out)
+invariant-loop-i l = (l.i ≤ length l.initial.out / 16) × (length l.out ≡ length l.initial.out) × (spots_left (layout_in l.shelf) l.first (length l.initial.out / 16) l.i l.out ≡ spots_into (layout_in l.shelf) l.first 0 (length l.initial.out / 16) l.initial.out)
 
 abbrev pub decreases-loop-i : goal.decreases-loop-i
 decreases-loop-i l = length l.initial.out / 16 - l.i

@@ -28,12 +28,11 @@ mix_out-requires c = rw c.loop-j.invariant.1.size (c.requires.within _ c.loop-j-
 
 pub loop-j-preserved : goal.loop-j-preserved
 loop-j-preserved c =
-    let sum = c.loop-j.invariant.1 in
-    (
+    let sum = c.loop-j.invariant.1 in (
       omega arith,
       elim c.if-j-i.branch [
-        then-j-i w ↦ gathered_next sum (c.requires.within _ c.loop-j-test.true) w.if-j-i.true (w.block-is ∙ w.mix_out.ensures)
-      | else-j-i w ↦ rw w.block-is (gathered_over sum w.if-j-i.false)
+        | then-j-i w ↦ gathered_next sum (c.requires.within _ c.loop-j-test.true) w.if-j-i.true (w.block-is ∙ w.mix_out.ensures)
+        | else-j-i w ↦ rw w.block-is (gathered_over sum w.if-j-i.false)
       ],
     )
 

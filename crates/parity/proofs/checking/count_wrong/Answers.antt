@@ -81,8 +81,8 @@ loop-s-preserved c =
     c.is_zero.ensures ∙ ap is_zero (front_is _ c.loop-s.sum c.gather.new.unit (room (goal.at.loop-s-preserved c).At-loop-s) (gathered (goal.at.loop-s-preserved c).After-gather)) in (
       front_size _ c.loop-s.sum c.gather.new.unit (room (goal.at.loop-s-preserved c).At-loop-s) (gathered (goal.at.loop-s-preserved c).After-gather) ∙ c.loop-s.invariant.0,
       elim c.if-not-is_zero.branch [
-        then-not-is_zero w ↦ rw w.wrong-is (searched_wrong c.loop-s.invariant.1 p (below (goal.at.loop-s-preserved c).In-loop-s) c.gather.ensures (ap not (sym zero ∙ w.if-not-is_zero.true)))
-      | else-not-is_zero w ↦ rw w.wrong-is (searched_right c.loop-s.invariant.1 p (below (goal.at.loop-s-preserved c).In-loop-s) c.gather.ensures (ap not (sym zero ∙ w.if-not-is_zero.false)))
+        | then-not-is_zero w ↦ rw w.wrong-is (searched_wrong c.loop-s.invariant.1 p (below (goal.at.loop-s-preserved c).In-loop-s) c.gather.ensures (ap not (sym zero ∙ w.if-not-is_zero.true)))
+        | else-not-is_zero w ↦ rw w.wrong-is (searched_right c.loop-s.invariant.1 p (below (goal.at.loop-s-preserved c).In-loop-s) c.gather.ensures (ap not (sym zero ∙ w.if-not-is_zero.false)))
       ],
     )
 

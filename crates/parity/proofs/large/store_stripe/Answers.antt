@@ -74,9 +74,9 @@ loop-i-preserved c =
     let e = c.number-n.ensures in (
       omega arith,
       elim c.if-is_present.branch [
-        then-is_present w ↦ rw w.written-is (begun_put t B (omega arith) e (sym c.is_present.ensures ∙ w.if-is_present.true)
-          (part-unit _ _ c.loop-i.i ∙ data_unit t c.loop-i.i c.loop-i-test.true) (w.image-is ∙ (rw (lent (goal.at.loop-i-preserved c).In-loop-i) at w.store.ensures)))
-      | else-is_present w ↦ rw (w.image-is, w.written-is) (begun_skip t B (omega arith) e (sym c.is_present.ensures ∙ w.if-is_present.false))
+        | then-is_present w ↦ rw w.written-is (begun_put t B (omega arith) e (sym c.is_present.ensures ∙ w.if-is_present.true)
+            (part-unit _ _ c.loop-i.i ∙ data_unit t c.loop-i.i c.loop-i-test.true) (w.image-is ∙ (rw (lent (goal.at.loop-i-preserved c).In-loop-i) at w.store.ensures)))
+        | else-is_present w ↦ rw (w.image-is, w.written-is) (begun_skip t B (omega arith) e (sym c.is_present.ensures ∙ w.if-is_present.false))
       ],
     )
 

@@ -28,14 +28,13 @@ bounds-counts-e c =
     omega (arith, (shelf_parts _ c.requires.shelf_value).limits.v_most)
 
 pub loop-e-preserved : goal.loop-e-preserved
-loop-e-preserved c =
-    (
-      omega arith,
-      elim c.if-not-is_lost.branch [
-        then-not-is_lost w ↦ rw w.counts-is (filled_next _ _ _ _ c.loop-e.invariant.1 (omega (arith, (shelf_parts _ c.requires.shelf_value).limits.v_most)) (sym c.is_lost.ensures ∙ w.if-not-is_lost.true))
-      | else-not-is_lost w ↦ rw w.counts-is (filled_over _ _ _ _ c.loop-e.invariant.1 (sym c.is_lost.ensures ∙ w.if-not-is_lost.false))
-      ],
-    )
+loop-e-preserved c = (
+  omega arith,
+  elim c.if-not-is_lost.branch [
+    | then-not-is_lost w ↦ rw w.counts-is (filled_next _ _ _ _ c.loop-e.invariant.1 (omega (arith, (shelf_parts _ c.requires.shelf_value).limits.v_most)) (sym c.is_lost.ensures ∙ w.if-not-is_lost.true))
+    | else-not-is_lost w ↦ rw w.counts-is (filled_over _ _ _ _ c.loop-e.invariant.1 (sym c.is_lost.ensures ∙ w.if-not-is_lost.false))
+  ],
+)
 
 pub returns : goal.returns
 returns c =

@@ -25,7 +25,6 @@ prepared c = record {
   ranked = c.ranks_of-ranks.ensures;
   listed = entries_at _ _ _ c.entries-entries.ensures (entries_fit c.args.shelf c.requires.held.shelf);
   shape_is = c.shape_of-shape.ensures;
-
 }
 
 pub lost_disk-lost-requires : goal.lost_disk-lost-requires

@@ -16,12 +16,11 @@ pub number-requires : goal.number-requires
 number-requires c = let P = c.requires.reckoned in record { two = P.two; some = P.some; entries = P.entries; often = P.often; deep = P.deep; row = P.row; index = c.loop-j-test.true }
 
 pub loop-j-preserved : goal.loop-j-preserved
-loop-j-preserved c =
-    (
-      omega arith,
-      length-set c.loop-j.numbers c.loop-j.j _ ∙ c.loop-j.invariant.1,
-      listed_next c.loop-j.numbers _ c.loop-j.j c.loop-j.invariant.2 (omega (arith, c.loop-j.invariant.1, c.loop-j-test.true, c.requires.k_bound)) c.number.ensures,
-    )
+loop-j-preserved c = (
+  omega arith,
+  length-set c.loop-j.numbers c.loop-j.j _ ∙ c.loop-j.invariant.1,
+  listed_next c.loop-j.numbers _ c.loop-j.j c.loop-j.invariant.2 (omega (arith, c.loop-j.invariant.1, c.loop-j-test.true, c.requires.k_bound)) c.number.ensures,
+)
 
 pub returns : goal.returns
 returns c = let all : c.loop-j.j ≡ c.args.shape.k = omega arith in rw all at c.loop-j.invariant.2

@@ -4,7 +4,6 @@ use Rattle.design.proofs.Writing.{Begun}
 use Rattle.parity.specs.Units.{unit_at, xor_u}
 use Rattle.parity.proofs.units.join.Given as goal
 
-
 abbrev pub Joined : ℕ → List ℕ → ℕ → ℕ → List ℕ
 Joined size image x y = xor_u (unit_at size image x) (unit_at size image y)
 

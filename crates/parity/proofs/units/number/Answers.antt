@@ -20,9 +20,9 @@ entry_is c =
     let a = c.args in
     ap (◌+◌ (a.s % a.b * a.k))
     (elim c.if-i-k.branch [
-      then-i-k+then-i-parity w ↦ rw (lt-ltb _ _ w.if-i-k.true, lt-ltb _ _ w.if-i-parity.true) w.position-is
-    | then-i-k+else-i-parity w ↦ rw (lt-ltb _ _ w.if-i-k.true, le-ltb _ _ w.if-i-parity.false) w.position-is
-    | else-i-k w ↦ rw (le-ltb _ _ w.if-i-k.false) w.position-is
+      | then-i-k+then-i-parity w ↦ rw (lt-ltb _ _ w.if-i-k.true, lt-ltb _ _ w.if-i-parity.true) w.position-is
+      | then-i-k+else-i-parity w ↦ rw (lt-ltb _ _ w.if-i-k.true, le-ltb _ _ w.if-i-parity.false) w.position-is
+      | else-i-k w ↦ rw (le-ltb _ _ w.if-i-k.false) w.position-is
     ])
 
 entry_lt : (c : Joined-i-k) → entry c < 2048

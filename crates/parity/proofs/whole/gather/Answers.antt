@@ -21,12 +21,11 @@ mix_out-requires c =
 
 pub loop-j-preserved : goal.loop-j-preserved
 loop-j-preserved c =
-    let sum = c.loop-j.invariant.1 in
-    (
+    let sum = c.loop-j.invariant.1 in (
       omega arith,
       elim c.if-j-i.branch [
-        then-j-i w ↦ gathered_next sum (c.requires.placed.within _ c.loop-j-test.true) w.if-j-i.true (w.unit-is ∙ (rw w.number-from.ensures at w.mix_out.ensures))
-      | else-j-i w ↦ rw w.unit-is (gathered_over sum w.if-j-i.false)
+        | then-j-i w ↦ gathered_next sum (c.requires.placed.within _ c.loop-j-test.true) w.if-j-i.true (w.unit-is ∙ (rw w.number-from.ensures at w.mix_out.ensures))
+        | else-j-i w ↦ rw w.unit-is (gathered_over sum w.if-j-i.false)
       ],
     )
 

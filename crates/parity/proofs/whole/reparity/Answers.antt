@@ -14,11 +14,10 @@ clear_unit-requires c =
     place_fits c.requires.placed (omega arith) c.number-to.ensures
 
 pub loop-i-init : goal.loop-i-init
-loop-i-init c =
-    (
-      omega arith,
-      stripe_none c.args.image.now c.requires.placed (omega arith) c.number-to.ensures c.clear_unit.ensures,
-    )
+loop-i-init c = (
+  omega arith,
+  stripe_none c.args.image.now c.requires.placed (omega arith) c.number-to.ensures c.clear_unit.ensures,
+)
 
 pub mix_in-requires : goal.mix_in-requires
 mix_in-requires c =
@@ -30,12 +29,11 @@ mix_within-requires c =
 
 pub loop-i-preserved : goal.loop-i-preserved
 loop-i-preserved c =
-    let sum = c.loop-i.invariant.1 in
-    (
+    let sum = c.loop-i.invariant.1 in (
       omega arith,
       elim c.if-i-j.branch [
-        then-i-j w ↦ stripe-lent sum w.if-i-j.true c.requires.unit_len (w.image-is ∙ (rw c.requires.unit_len at w.mix_in.ensures))
-      | else-i-j w ↦ stripe_next sum (omega arith) w.number-from.ensures (omega arith) w.if-i-j.false (w.image-is ∙ w.mix_within.ensures)
+        | then-i-j w ↦ stripe-lent sum w.if-i-j.true c.requires.unit_len (w.image-is ∙ (rw c.requires.unit_len at w.mix_in.ensures))
+        | else-i-j w ↦ stripe_next sum (omega arith) w.number-from.ensures (omega arith) w.if-i-j.false (w.image-is ∙ w.mix_within.ensures)
       ],
     )
 

@@ -28,8 +28,8 @@ loop-j-preserved c =
     let sum = c.loop-j.invariant.1 in (
       omega arith,
       elim c.if-j-i.branch [
-        then-j-i w ↦ stripe_next sum c.loop-j-test.true w.number-from.ensures w.if-j-i.true w.if-j-i.true (w.image-is ∙ w.mix_within.ensures)
-      | else-j-i w ↦ rw w.image-is (stripe_over sum w.if-j-i.false refl)
+        | then-j-i w ↦ stripe_next sum c.loop-j-test.true w.number-from.ensures w.if-j-i.true w.if-j-i.true (w.image-is ∙ w.mix_within.ensures)
+        | else-j-i w ↦ rw w.image-is (stripe_over sum w.if-j-i.false refl)
       ],
     )
 

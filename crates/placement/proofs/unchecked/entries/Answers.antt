@@ -34,8 +34,8 @@ loop-i-preserved c =
     let l = c.loop-i in (
       omega arith,
       elim c.if-table-i.branch [
-        then-table-i w ↦ rw (w.entries-is, w.found-is) (listing_more _ _ l.i l.entries l.found l.invariant.1 (eq-eqb _ _ w.if-table-i.true))
-      | else-table-i w ↦ rw (w.entries-is, w.found-is) (listing_same _ _ l.i l.entries l.found l.invariant.1 (ne_eqb _ _ w.if-table-i.false))
+        | then-table-i w ↦ rw (w.entries-is, w.found-is) (listing_more _ _ l.i l.entries l.found l.invariant.1 (eq-eqb _ _ w.if-table-i.true))
+        | else-table-i w ↦ rw (w.entries-is, w.found-is) (listing_same _ _ l.i l.entries l.found l.invariant.1 (ne_eqb _ _ w.if-table-i.false))
       ],
     )
 
