@@ -17,13 +17,13 @@ fn main() {
 }
 
 /// The archive to link, and whether its calls are made under an emulator. SHQEMTULI_LIB names one for this machine; without
-/// it, it is what `rt staticlib host` wrote.
+/// it, it is what `rt lib` wrote in crates/host.
 fn archive() -> (PathBuf, bool) {
     if let Some(path) = std::env::var_os("SHQEMTULI_LIB") {
         return (existing(Path::new(&path)), false);
     }
     let here = PathBuf::from(variable("CARGO_MANIFEST_DIR"));
-    let proved = existing(&here.join("../target/staticlib/libhost.a"));
+    let proved = existing(&here.join("../crates/host/out/libhost.a"));
     match variable("CARGO_CFG_TARGET_ARCH").as_str() {
         "x86_64" => (proved, false),
         _ => (through_emulator(&here, &proved), true),
@@ -34,7 +34,7 @@ fn archive() -> (PathBuf, bool) {
 fn existing(path: &Path) -> PathBuf {
     let whole = path.canonicalize().unwrap_or_else(|_| {
         eprintln!("There is no archive {}.", path.display());
-        eprintln!("Build it with `rt staticlib host`, at the root of the repository,");
+        eprintln!("Build it with `rt lib`, in the repository's folder crates/host,");
         eprintln!("or set SHQEMTULI_LIB to the path of a libhost.a for this machine.");
         std::process::exit(1);
     });

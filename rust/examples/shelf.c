@@ -1,7 +1,7 @@
 /* Opens a sheet, writes two units, loses a disk, reads from what is left, and rebuilds the disk: the run that document 01
  * gives the answers of. The tests of rust/ compile it and hold what it prints against them. By hand:
  *
- *     cc -I rust/include rust/examples/shelf.c target/staticlib/libhost.a -o shelf && ./shelf
+ *     cc -I rust/include rust/examples/shelf.c crates/host/out/libhost.a -o shelf && ./shelf
  */
 #include "shelf.h"
 

@@ -25,11 +25,11 @@ pub fn measure(clock: &Clock) {
     std::fs::remove_file(&path).ok();
 }
 
-/// SHQEMTULI_LAYOUT, or where `rt check print_layout` writes.
+/// SHQEMTULI_LAYOUT, or where `rt run` in crates/print_layout writes it.
 fn program() -> PathBuf {
     match std::env::var_os("SHQEMTULI_LAYOUT") {
         Some(path) => PathBuf::from(path),
-        None => Path::new(env!("CARGO_MANIFEST_DIR")).join("../../target/bin/print_layout"),
+        None => Path::new(env!("CARGO_MANIFEST_DIR")).join("../../crates/print_layout/out/print_layout"),
     }
 }
 

@@ -18,10 +18,10 @@ fn program() -> Option<Vec<PathBuf>> {
         return Some(vec![PathBuf::from(path)]);
     }
     let here = Path::new(env!("CARGO_MANIFEST_DIR"));
-    let program = here.join("../target/bin/print_layout");
+    let program = here.join("../crates/print_layout/out/print_layout");
     assert!(
         program.exists(),
-        "there is no {}: build it with `rt check print_layout`, or set SHQEMTULI_NO_LAYOUT",
+        "there is no {}: build it with `rt run` in crates/print_layout, or set SHQEMTULI_NO_LAYOUT",
         program.display()
     );
     if cfg!(target_arch = "x86_64") {
