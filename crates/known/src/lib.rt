@@ -1,1 +1,3 @@
 // Theorems only: the known answers of document 01 (see specs/).
+
+#![tactic(auto)]
