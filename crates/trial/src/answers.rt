@@ -2,18 +2,19 @@
 use crate::print;
 use design::Verdict;
 use parity::Cost;
+use std::io;
+use std::io::Write;
 
 // 0, or the refusal's number.
-pub fn verdict(verdict: Verdict) {
+pub fn verdict<W: Write>(to: &mut W, verdict: Verdict) -> io::Result<()> {
     match verdict {
-        Verdict::Accepted => print::number(0),
-        Verdict::Refused(refusal) => print::number(refusal.number()),
+        Verdict::Accepted => print::number(to, 0),
+        Verdict::Refused(refusal) => print::number(to, refusal.number()),
     }
 }
 
-pub fn cost(cost: Cost) {
-    let answer = cost.verdict;
-    verdict(answer);
-    print::number(cost.read);
-    print::number(cost.written);
+pub fn cost<W: Write>(to: &mut W, cost: Cost) -> io::Result<()> {
+    verdict(to, cost.verdict)?;
+    print::number(to, cost.read)?;
+    print::number(to, cost.written)
 }

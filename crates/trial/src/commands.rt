@@ -1,7 +1,6 @@
 // The commands: the pattern that a line of each has, and what a line asks.
-use crate::words;
 use crate::words::Parsed;
-use bytes::scan;
+use crate::{scan, words};
 
 // The commands, by the place of their pattern among those below. Commands that stand together are done alike (module steps).
 pub const FIELD_V: usize = 0;
@@ -157,7 +156,7 @@ fn with(call: Call, n: usize, word: &[u8], asked: &[u8]) -> Call {
         b'#' => number(call, word, most(asked)),
         b'=' => only_if(word.len() == 0, with_number(call, most(asked))),
         b'*' => only_if(word.len() > 1, with_bytes(call, n)),
-        _ => only_if(check::same(word, asked), call),
+        _ => only_if(word == asked, call),
     }
 }
 
@@ -184,7 +183,7 @@ fn first_of(line: &[u8], patterns: &[u8]) -> Call {
     let mut call = none();
     let mut at = 0;
     for n in 0..NONE {
-        let end = scan::find(patterns, at, patterns.len(), b'\n');
+        let end = scan::find(patterns, at, b'\n');
         if call.command == NONE {
             call = read(line, &patterns[at..end], n);
         }

@@ -2,80 +2,115 @@
 use crate::commands::Call;
 use crate::{answers, commands, print};
 use design::Shelf;
+use std::io;
+use std::io::Write;
 
-fn read(shelf: Shelf, image: &[u8], address: usize, buffer: &mut [u8]) {
-    answers::cost(parity::read(shelf, image, address, buffer));
-    print::unit(buffer);
+fn read<W: Write>(
+    to: &mut W,
+    shelf: Shelf,
+    image: &[u8],
+    address: usize,
+    buffer: &mut [u8],
+) -> io::Result<()> {
+    answers::cost(to, parity::read(shelf, image, address, buffer))?;
+    print::unit(to, buffer)
 }
 
-fn scrub(shelf: Shelf, image: &[u8]) {
+fn scrub<W: Write>(to: &mut W, shelf: Shelf, image: &[u8]) -> io::Result<()> {
     let scrubbing = parity::scrub(shelf, image);
-    let verdict = scrubbing.verdict;
-    answers::verdict(verdict);
-    print::number(scrubbing.wrong);
+    answers::verdict(to, scrubbing.verdict)?;
+    print::number(to, scrubbing.wrong)
 }
 
-fn show_address<'a>(shelf: Shelf, image: &'a [u8], address: usize, other: &'a [u8]) {
-    print::unit(parity::show_address(shelf, image, address, other));
+fn show_address<'a, W: Write>(
+    to: &mut W,
+    shelf: Shelf,
+    image: &'a [u8],
+    address: usize,
+    other: &'a [u8],
+) -> io::Result<()> {
+    print::unit(to, parity::show_address(shelf, image, address, other))
 }
 
 // The calls that leave the image.
-pub fn look(shelf: Shelf, image: &[u8], call: Call, buffer: &mut [u8]) {
+pub fn look<W: Write>(
+    to: &mut W,
+    shelf: Shelf,
+    image: &[u8],
+    call: Call,
+    buffer: &mut [u8],
+) -> io::Result<()> {
     let command = call.command;
     match command {
-        commands::READ => read(shelf, image, call.a, buffer),
-        commands::SCRUB => scrub(shelf, image),
-        commands::SHOW_PLACE => print::unit(parity::show_place(shelf, image, call.b, call.c)),
-        _ => show_address(shelf, image, call.a, buffer),
+        commands::READ => read(to, shelf, image, call.a, buffer),
+        commands::SCRUB => scrub(to, shelf, image),
+        commands::SHOW_PLACE => print::unit(to, parity::show_place(shelf, image, call.b, call.c)),
+        _ => show_address(to, shelf, image, call.a, buffer),
     }
 }
 
-fn counts(counts: &[usize; Shelf::V_MOST]) {
-    for e in 0..Shelf::V_MOST {
-        print::number(counts[e]);
+fn counts<W: Write>(to: &mut W, counts: &[usize; Shelf::V_MOST]) -> io::Result<()> {
+    for count in counts {
+        print::number(to, *count)?;
     }
+    Ok(())
 }
 
-fn rebuild(shelf: Shelf, image: &mut [u8]) -> Shelf {
+fn rebuild<W: Write>(to: &mut W, shelf: Shelf, image: &mut [u8]) -> io::Result<Shelf> {
     let rebuilding = parity::rebuild(shelf, image);
-    let verdict = rebuilding.verdict;
-    answers::verdict(verdict);
-    let numbers = rebuilding.counts;
-    counts(&numbers);
-    rebuilding.shelf
+    answers::verdict(to, rebuilding.verdict)?;
+    counts(to, &rebuilding.counts)?;
+    Ok(rebuilding.shelf)
 }
 
-fn write(shelf: Shelf, image: &mut [u8], address: usize, unit: &[u8]) -> Shelf {
-    answers::cost(parity::write(shelf, image, address, unit));
-    shelf
+fn write<W: Write>(
+    to: &mut W,
+    shelf: Shelf,
+    image: &mut [u8],
+    address: usize,
+    unit: &[u8],
+) -> io::Result<Shelf> {
+    answers::cost(to, parity::write(shelf, image, address, unit))?;
+    Ok(shelf)
 }
 
-fn write_stripe(shelf: Shelf, image: &mut [u8], stripe: usize, buffer: &[u8]) -> Shelf {
-    answers::cost(parity::write_stripe(shelf, image, stripe, buffer));
-    shelf
+fn write_stripe<W: Write>(
+    to: &mut W,
+    shelf: Shelf,
+    image: &mut [u8],
+    stripe: usize,
+    buffer: &[u8],
+) -> io::Result<Shelf> {
+    answers::cost(to, parity::write_stripe(shelf, image, stripe, buffer))?;
+    Ok(shelf)
 }
 
-fn blank(shelf: Shelf, image: &mut [u8]) -> Shelf {
-    answers::verdict(parity::blank(shelf, image));
-    shelf
+fn blank<W: Write>(to: &mut W, shelf: Shelf, image: &mut [u8]) -> io::Result<Shelf> {
+    answers::verdict(to, parity::blank(shelf, image))?;
+    Ok(shelf)
 }
 
 // The calls that may change the image, or the loss.
-pub fn store(shelf: Shelf, image: &mut [u8], call: Call, buffer: &[u8]) -> Shelf {
+pub fn store<W: Write>(
+    to: &mut W,
+    shelf: Shelf,
+    image: &mut [u8],
+    call: Call,
+    buffer: &[u8],
+) -> io::Result<Shelf> {
     let command = call.command;
     match command {
-        commands::BLANK => blank(shelf, image),
-        commands::WRITE | commands::FILL => write(shelf, image, call.a, buffer),
+        commands::BLANK => blank(to, shelf, image),
+        commands::WRITE | commands::FILL => write(to, shelf, image, call.a, buffer),
         commands::WRITE_STRIPE | commands::FILL_STRIPE => write_stripe(
-            shelf, image, call.a, buffer,
+            to, shelf, image, call.a, buffer,
         ),
-        _ => rebuild(shelf, image),
+        _ => rebuild(to, shelf, image),
     }
 }
 
-pub fn lose(shelf: Shelf, disk: usize) -> Shelf {
+pub fn lose<W: Write>(to: &mut W, shelf: Shelf, disk: usize) -> io::Result<Shelf> {
     let losing = parity::lose(shelf, disk);
-    let verdict = losing.verdict;
-    answers::verdict(verdict);
-    losing.shelf
+    answers::verdict(to, losing.verdict)?;
+    Ok(losing.shelf)
 }

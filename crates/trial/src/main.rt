@@ -71,29 +71,37 @@ mod images;
 mod places;
 mod print;
 mod runs;
+mod scan;
 mod sheets;
 mod steps;
 mod values;
 mod words;
 
-use bytes::scan;
 use held::Held;
+use std::io;
+use std::io::{BufWriter, Read, Write};
 
-fn run(text: &[u8]) {
+// The most bytes of standard input that are read.
+const INPUT_MOST: u64 = 131072;
+
+fn run<W: Write>(to: &mut W, text: &[u8]) -> io::Result<()> {
     let mut held = Held::new();
     let mut at = 0;
     while at < text.len() {
-        let end = scan::find(text, at, text.len(), b'\n');
-        held = steps::step(held, &text[at..end]);
+        let end = scan::find(text, at, b'\n');
+        held = steps::step(to, held, &text[at..end])?;
         if end == text.len() {
-            return;
+            return Ok(());
         }
         at = end + 1;
     }
+    Ok(())
 }
 
-fn main() {
-    let mut input = [0u8; 131072];
-    let n = io::read_full(libc::STDIN_FILENO, &mut input);
-    run(&input[..n]);
+fn main(rt: HostRuntime) -> io::Result<()> {
+    let mut input = Vec::new(rt.alloc());
+    rt.reader().take(INPUT_MOST).read_to_end(&mut input)?;
+    let mut to = BufWriter::new(rt.alloc(), io::writer(&rt))?;
+    run(&mut to, input.as_slice())?;
+    to.flush()
 }

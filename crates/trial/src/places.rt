@@ -2,42 +2,44 @@
 use crate::print;
 use design::Shelf;
 use placement::{LookUp, Placing, Spot};
+use std::io;
+use std::io::Write;
 
 // The most addresses that `everywhere` goes through.
 const MOST: usize = 100000;
 
-pub fn place(shelf: Shelf, address: usize) {
+pub fn place<W: Write>(to: &mut W, shelf: Shelf, address: usize) -> io::Result<()> {
     match placement::place(shelf, address) {
         Placing::At(spot) => {
-            print::place(spot.disk, spot.offset);
-            print::say(print::PARITY);
-            print::place(spot.parity_disk, spot.parity_offset);
+            print::place(to, spot.disk, spot.offset)?;
+            print::say(to, print::PARITY)?;
+            print::place(to, spot.parity_disk, spot.parity_offset)
         }
-        Placing::Refused(refusal) => print::number(refusal.number()),
+        Placing::Refused(refusal) => print::number(to, refusal.number()),
     }
 }
 
-fn stripe(stripe: usize) {
-    print::say(print::STRIPE);
-    print::number(stripe);
+fn stripe<W: Write>(to: &mut W, stripe: usize) -> io::Result<()> {
+    print::say(to, print::STRIPE)?;
+    print::number(to, stripe)
 }
 
-fn data(at: usize, address: usize) {
-    stripe(at);
-    print::say(print::ADDRESS);
-    print::number(address);
+fn data<W: Write>(to: &mut W, at: usize, address: usize) -> io::Result<()> {
+    stripe(to, at)?;
+    print::say(to, print::ADDRESS)?;
+    print::number(to, address)
 }
 
-fn parity(at: usize) {
-    stripe(at);
-    print::say(print::PARITY);
+fn parity<W: Write>(to: &mut W, at: usize) -> io::Result<()> {
+    stripe(to, at)?;
+    print::say(to, print::PARITY)
 }
 
-pub fn find(shelf: Shelf, disk: usize, offset: usize) {
+pub fn find<W: Write>(to: &mut W, shelf: Shelf, disk: usize, offset: usize) -> io::Result<()> {
     match placement::look_up(shelf, disk, offset) {
-        LookUp::Data { stripe, address } => data(stripe, address),
-        LookUp::Parity(stripe) => parity(stripe),
-        LookUp::Refused(refusal) => print::number(refusal.number()),
+        LookUp::Data { stripe, address } => data(to, stripe, address),
+        LookUp::Parity(stripe) => parity(to, stripe),
+        LookUp::Refused(refusal) => print::number(to, refusal.number()),
     }
 }
 
@@ -57,18 +59,16 @@ fn comes_back(shelf: Shelf, spot: Spot, placed: usize) -> bool {
 }
 
 // Goes through the addresses up to the first that is refused, and says how many there are, or the first that does not come back.
-pub fn everywhere(shelf: Shelf) {
+pub fn everywhere<W: Write>(to: &mut W, shelf: Shelf) -> io::Result<()> {
     for address in 0..MOST {
         let Placing::At(spot) = placement::place(shelf, address) else {
-            print::number(address);
-            return;
+            return print::number(to, address);
         };
         if !comes_back(shelf, spot, address) {
-            print::say(print::DIFFERS);
-            print::say(print::AT);
-            print::number(address);
-            return;
+            print::say(to, print::DIFFERS)?;
+            print::say(to, print::AT)?;
+            return print::number(to, address);
         }
     }
-    print::number(MOST);
+    print::number(to, MOST)
 }

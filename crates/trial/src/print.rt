@@ -1,5 +1,7 @@
-// Printing to standard output. A number, a place and bytes have a space in front.
+// Printing to a writer. A number, a place and bytes have a space in front.
 use crate::words;
+use std::io;
+use std::io::Write;
 
 // Words to say, by number.
 pub const REFUSED: usize = 0;
@@ -30,38 +32,41 @@ pub const BAR: usize = 12;
 
 pub const COLON: usize = 13;
 
-pub fn text(bytes: &[u8]) {
-    io::write_all(libc::STDOUT_FILENO, bytes);
+pub fn text<W: Write>(to: &mut W, bytes: &[u8]) -> io::Result<()> {
+    to.write_all(bytes)
 }
 
-pub fn say(n: usize) {
-    text(words::word(
-        b" refused done none whole lost parity stripe address differs at kept changed | :",
-        n,
-    ));
+pub fn say<W: Write>(to: &mut W, n: usize) -> io::Result<()> {
+    text(
+        to,
+        words::word(
+            b" refused done none whole lost parity stripe address differs at kept changed | :",
+            n,
+        ),
+    )
 }
 
-pub fn byte(byte: u8) {
-    text(&[byte]);
+pub fn byte<W: Write>(to: &mut W, byte: u8) -> io::Result<()> {
+    text(to, &[byte])
 }
 
-pub fn end() {
-    byte(b'\n');
+pub fn end<W: Write>(to: &mut W) -> io::Result<()> {
+    byte(to, b'\n')
 }
 
-fn decimal(n: usize) {
-    io::print_decimal(libc::STDOUT_FILENO, n as u64);
+fn decimal<W: Write>(to: &mut W, n: usize) -> io::Result<()> {
+    write!(to, "{n}")
 }
 
-pub fn number(n: usize) {
-    byte(b' ');
-    decimal(n);
+pub fn number<W: Write>(to: &mut W, n: usize) -> io::Result<()> {
+    byte(to, b' ')?;
+    decimal(to, n)
 }
 
-pub fn place(disk: usize, offset: usize) {
-    number(disk);
-    byte(b':');
-    decimal(offset);
+pub fn place<W: Write>(to: &mut W, disk: usize, offset: usize) -> io::Result<()> {
+    number(to, disk)?;
+    byte(to, b':')?;
+    decimal(to, offset)
 }
 
 fn glyph(x: u8) -> u8 {
@@ -73,32 +78,32 @@ fn glyph(x: u8) -> u8 {
     }
 }
 
-fn pair(x: u8) {
-    byte(glyph(x / 16));
-    byte(glyph(x));
+fn pair<W: Write>(to: &mut W, x: u8) -> io::Result<()> {
+    byte(to, glyph(x / 16))?;
+    byte(to, glyph(x))
 }
 
-pub fn bytes(bytes: &[u8]) {
-    byte(b' ');
+pub fn bytes<W: Write>(to: &mut W, bytes: &[u8]) -> io::Result<()> {
+    byte(to, b' ')?;
     if bytes.len() == 0 {
-        byte(b'-');
+        byte(to, b'-')?;
     }
-    for i in 0..bytes.len() {
-        pair(bytes[i]);
+    for x in bytes {
+        pair(to, *x)?;
     }
+    Ok(())
 }
 
 // Bytes; more than 64 of one value as their count, `x` and the value.
-pub fn unit(unit: &[u8]) {
+pub fn unit<W: Write>(to: &mut W, unit: &[u8]) -> io::Result<()> {
     let n = unit.len();
     if n > 64 {
         let last = n - 1;
-        if check::same(&unit[1..n], &unit[0..last]) {
-            number(n);
-            byte(b'x');
-            pair(unit[0]);
-            return;
+        if unit[1..n] == unit[0..last] {
+            number(to, n)?;
+            byte(to, b'x')?;
+            return pair(to, unit[0]);
         }
     }
-    bytes(unit);
+    bytes(to, unit)
 }

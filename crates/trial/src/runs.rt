@@ -5,6 +5,8 @@ ghost use Rattle.placement.specs.Placed.{Ran};
 use crate::{answers, print};
 use design::{Shelf, Verdict};
 use placement::Spot;
+use std::io;
+use std::io::Write;
 
 // The most records that a run has here.
 const MOST: usize = 32;
@@ -26,21 +28,22 @@ fn lend(shelf: Shelf, first: usize, n: usize, before: Spot) -> Lent
     Lent { verdict, list }
 }
 
-fn record(spot: Spot) {
-    print::say(print::BAR);
-    print::place(spot.disk, spot.offset);
-    print::place(spot.parity_disk, spot.parity_offset);
+fn record<W: Write>(to: &mut W, spot: Spot) -> io::Result<()> {
+    print::say(to, print::BAR)?;
+    print::place(to, spot.disk, spot.offset)?;
+    print::place(to, spot.parity_disk, spot.parity_offset)
 }
 
-fn records(list: [Spot; MOST], n: usize)
+fn records<W: Write>(to: &mut W, list: [Spot; MOST], n: usize) -> io::Result<()>
     requires { n ≤ 32 }
 {
     for i in 0..n {
-        record(list[i]);
+        record(to, list[i])?;
     }
+    Ok(())
 }
 
-pub fn run(shelf: Shelf, first: usize, n: usize)
+pub fn run<W: Write>(to: &mut W, shelf: Shelf, first: usize, n: usize) -> io::Result<()>
     requires { n ≤ 32 }
 {
     let before = Spot {
@@ -50,8 +53,6 @@ pub fn run(shelf: Shelf, first: usize, n: usize)
         parity_offset: 7,
     };
     let lent = lend(shelf, first, n, before);
-    let verdict = lent.verdict;
-    answers::verdict(verdict);
-    let list = lent.list;
-    records(list, n);
+    answers::verdict(to, lent.verdict)?;
+    records(to, lent.list, n)
 }

@@ -1,72 +1,62 @@
 // The commands on the shelf value.
 use crate::{commands, print};
 use design::{Loss, Lost, Refusal, Shelf};
+use std::io;
+use std::io::Write;
 
 // v k b T u r lambda.
-pub fn numbers(shelf: Shelf) {
-    print::number(shelf.v);
-    print::number(shelf.k);
-    print::number(shelf.b);
-    print::number(shelf.T);
-    print::number(shelf.u);
-    print::number(shelf.r);
-    print::number(shelf.lambda);
+pub fn numbers<W: Write>(to: &mut W, shelf: Shelf) -> io::Result<()> {
+    print::number(to, shelf.v)?;
+    print::number(to, shelf.k)?;
+    print::number(to, shelf.b)?;
+    print::number(to, shelf.T)?;
+    print::number(to, shelf.u)?;
+    print::number(to, shelf.r)?;
+    print::number(to, shelf.lambda)
 }
 
 // The b·k entries in use, as far as the table goes. Entry i is of tuple i div k: b·k itself may be too large a number.
-fn entries(shelf: Shelf) {
+fn entries<W: Write>(to: &mut W, shelf: Shelf) -> io::Result<()> {
     if shelf.k == 0 {
-        return;
+        return Ok(());
     }
     for i in 0..Shelf::PLACES_MOST {
         if i / shelf.k >= shelf.b {
-            return;
+            return Ok(());
         }
-        print::number(shelf.table[i] as usize);
+        print::number(to, shelf.table[i] as usize)?;
     }
+    Ok(())
 }
 
-fn loss(loss: Loss) {
-    let lost = loss.lost;
-    match lost {
-        Lost::Nothing => print::say(print::WHOLE),
+fn loss<W: Write>(to: &mut W, loss: Loss) -> io::Result<()> {
+    match loss.lost {
+        Lost::Nothing => print::say(to, print::WHOLE),
         Lost::Disk(d) => {
-            print::say(print::LOST);
-            print::number(d as usize);
+            print::say(to, print::LOST)?;
+            print::number(to, d as usize)
         }
     }
 }
 
-pub fn show(shelf: Shelf) {
-    numbers(shelf);
-    let lost = shelf.loss;
-    loss(lost);
-    print::say(print::COLON);
-    entries(shelf);
+pub fn show<W: Write>(to: &mut W, shelf: Shelf) -> io::Result<()> {
+    numbers(to, shelf)?;
+    loss(to, shelf.loss)?;
+    print::say(to, print::COLON)?;
+    entries(to, shelf)
 }
 
-pub fn judge(shelf: Shelf) {
+pub fn judge<W: Write>(to: &mut W, shelf: Shelf) -> io::Result<()> {
     if shelf.is_shelf() {
-        print::number(0);
+        print::number(to, 0)
     } else {
-        print::number(Refusal::NotAShelf.number());
+        print::number(to, Refusal::NotAShelf.number())
     }
 }
 
-// A field that holds an enum is not set by itself: hence the value anew.
-fn with_loss(shelf: Shelf, loss: Loss) -> Shelf {
-    let table = shelf.table;
-    Shelf {
-        v: shelf.v,
-        k: shelf.k,
-        b: shelf.b,
-        T: shelf.T,
-        u: shelf.u,
-        r: shelf.r,
-        lambda: shelf.lambda,
-        table,
-        loss,
-    }
+fn with_loss(mut shelf: Shelf, loss: Loss) -> Shelf {
+    shelf.loss = loss;
+    shelf
 }
 
 fn with_entry(mut shelf: Shelf, i: usize, x: usize) -> Shelf {

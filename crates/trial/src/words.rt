@@ -2,7 +2,7 @@
 // missing word is empty, and an empty one is not.
 ghost use Rattle.std.specs.Prelude.{◌*◌, ◌≤◌, ◌<◌, length};
 
-use bytes::scan;
+use crate::scan;
 
 #[derive(Clone, Copy)]
 pub enum Parsed {
@@ -19,7 +19,7 @@ fn start(text: &[u8], n: usize) -> usize
         if at == text.len() {
             return at;
         }
-        at = scan::find(text, at + 1, text.len(), b' ');
+        at = scan::find(text, at + 1, b' ');
     }
     at
 }
@@ -37,7 +37,7 @@ pub fn word(text: &[u8], n: usize) -> &[u8] {
 fn digit(byte: u8) -> usize
     ensures { result ≤ 16 }
 {
-    scan::find(b"0123456789ABCDEF", 0, 16, byte)
+    scan::find(b"0123456789ABCDEF", 0, byte)
 }
 
 // The number that stands from `from` on.
@@ -74,7 +74,7 @@ pub const WRONG: usize = usize::MAX;
 
 // How many bytes the word stands for, by its length.
 fn pairs(word: &[u8]) -> usize {
-    if check::same(word, b" -") {
+    if word == b" -".as_slice() {
         0
     } else if word.len() % 2 == 0 {
         WRONG
