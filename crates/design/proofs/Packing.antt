@@ -9,10 +9,7 @@ use native.Mathlib.Nat.{add-zero, add_assoc}
 use native.Mathlib.Numerals.{add-one}
 use native.Mathlib.Omega.{arith}
 use borrow.Author.Tests.{le-leb, lt-leb}
-use denote.Laws.{Is}
-use denote.Struct.Declared.{row}
-use mir.Val.{Val}
-use lib.ListN.{length, get_or, take, drop, replicate, length-map}
+use lib.ListN.{length, get_or, take, drop, replicate}
 use lib.Seq.{take-suc, length-take-le}
 use Rattle.fields.specs.Field.{with_field, Wrote}
 use Rattle.fields.specs.declared.Stored.{Stored}
@@ -25,7 +22,6 @@ use Rattle.design.specs.Refusals.{first_broken}
 use Rattle.design.specs.Loss.{no_loss, with_loss}
 use Rattle.design.specs.Sheet.{sheet_length}
 use Rattle.design.specs.Shelf.{Piece, packed, header_in, numbers_in, sheet_in, is_shelf, back_rules, back_answer, back_buffer, WroteBack}
-use Rattle.design.specs.contracts.Shelf.{the_type}
 
 -- the shelf with no disk lost
 abbrev pub whole : Shelf → Shelf

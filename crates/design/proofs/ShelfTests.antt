@@ -3,13 +3,12 @@ use mathlib.Core.Path.{◌≡◌}
 use mathlib.Core.Logic.{◌⊎◌, inl, inr, ◌↔◌}
 use mathlib.Core.Bool.{Bool, true, false, ◌&&◌, ◌||◌}
 use mathlib.Core.List.{List, [], ◌∷◌}
-use Prim.Native.Nat.{ℕ, zero, ◌*◌, ◌≤◌, ◌<◌}
+use Prim.Native.Nat.{ℕ, ◌*◌, ◌≤◌, ◌<◌}
 use native.Mathlib.Omega.{arith}
 use lib.Bits.{bit_or, or_add_and, and_le_l, and_le_r}
 use lib.Dec.{ltb, eqb}
 use lib.ListN.{get_or}
 use borrow.Author.Tests.{ltb-false, le-ltb, eq-eqb, eqb-true}
-use Rattle.design.specs.declared.Repeat.TheVariants as Repeat
 use Rattle.design.specs.declared.Shelf.{Shelf}
 use Rattle.design.specs.Tuples.{before, shared, Different, disks_below, none_twice, disks_even, pairs_even}
 use Rattle.design.specs.Sheet.{within_limits, Limits}

@@ -10,7 +10,6 @@ use lib.Arith.{digits_lt}
 use lib.Dec.{leb, ltb, eqb}
 use lib.ListN.{get_or}
 use borrow.Author.Tests.{lt-ltb, ltb-true, le-leb, leb-true, eq-eqb, eqb-true}
-use Rattle.design.specs.declared.Repeat.TheVariants as Repeat
 use Rattle.design.specs.Count.{every}
 use Rattle.design.specs.Tuples.{Design, in_table, before, shared, disks_below, disks_even, pairs_even}
 use Rattle.design.specs.Sheet.{within_limits, Limits}

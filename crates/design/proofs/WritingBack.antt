@@ -13,7 +13,6 @@ use Rattle.design.specs.declared.Refusal.{Refusal}
 use Rattle.design.specs.declared.Verdict.{Verdict}
 use Rattle.design.specs.declared.Verdict.TheVariants.{Accepted, Refused}
 use Rattle.design.specs.declared.WriteBack.{WriteBack}
-use Rattle.design.specs.declared.WriteBack.TheVariants as WriteBack
 use Rattle.design.specs.Refusals.{number, first_broken}
 use Rattle.design.specs.Sheet.{sheet_length, table_size, opened}
 use Rattle.design.specs.Shelf.{is_shelf, sheet_in, back_rules, back_answer, back_buffer, WroteBack}

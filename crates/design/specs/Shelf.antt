@@ -5,7 +5,6 @@ use Rattle.design.specs.declared.Shelf.{Shelf}
 use Rattle.design.specs.declared.Verdict.{Verdict}
 use Rattle.design.specs.declared.Verdict.TheVariants.{Accepted, Refused}
 use Rattle.design.specs.declared.WriteBack.{WriteBack}
-use Rattle.design.specs.declared.WriteBack.TheVariants as WriteBack
 use Rattle.design.specs.declared.Refusal.TheVariants.{NotAShelf, OtherBuffer}
 use Rattle.design.specs.Count.{every}
 use Rattle.design.specs.Refusals.{Rule, first_broken}

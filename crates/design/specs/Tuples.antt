@@ -1,7 +1,6 @@
 -- A design: its tuples of disks, what is counted in them, and when it is balanced (document 01, "The sheet"; source 001).
 use Rattle.std.specs.Prelude.{◌≡◌, ◌≢◌, Bool, not, cond, ◌&&◌, List, ℕ, ◌+◌, ◌*◌, ◌<◌, ltb, eqb, get_or}
 use Rattle.design.specs.declared.Repeat.{Repeat}
-use Rattle.design.specs.declared.Repeat.TheVariants as Repeat
 use Rattle.design.specs.Count.{count, every, nth}
 
 -- v disks, b tuples of k disks each; `disk q p` stands at position p of tuple q

@@ -7,7 +7,6 @@ use Rattle.design.specs.declared.Refusal.{Refusal}
 use Rattle.design.specs.declared.Verdict.{Verdict}
 use Rattle.design.specs.declared.Verdict.TheVariants.{Accepted, Refused}
 use Rattle.design.specs.declared.WriteBack.{WriteBack}
-use Rattle.design.specs.declared.WriteBack.TheVariants as WriteBack
 use Rattle.design.specs.Refusals.{number}
 use Rattle.parity.specs.Calls.{by}
 use Rattle.parity.proofs.By.{by_accepted, by_refused}

@@ -7,9 +7,7 @@ use Rattle.design.specs.declared.Refusal.{Refusal}
 use Rattle.design.specs.Refusals.{number}
 use Rattle.placement.specs.declared.Spot.{Spot}
 use Rattle.placement.specs.declared.Placing.{Placing}
-use Rattle.placement.specs.declared.Placing.TheVariants as Placing
 use Rattle.placement.specs.declared.LookUp.{LookUp}
-use Rattle.placement.specs.declared.LookUp.TheVariants as LookUp
 use Rattle.placement.specs.Layout.{Layout}
 use Rattle.placement.specs.Placed.{spot_of}
 use Rattle.host.specs.Numbers.{numbered}

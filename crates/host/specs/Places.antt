@@ -4,9 +4,7 @@ use Rattle.design.specs.declared.Verdict.{Verdict}
 use Rattle.design.specs.Refusals.{number, first_broken}
 use Rattle.placement.specs.declared.Spot.{Spot}
 use Rattle.placement.specs.declared.Placing.{Placing}
-use Rattle.placement.specs.declared.Placing.TheVariants as Placing
 use Rattle.placement.specs.declared.LookUp.{LookUp}
-use Rattle.placement.specs.declared.LookUp.TheVariants as LookUp
 use Rattle.placement.specs.Layout.{Layout, layout_in}
 use Rattle.placement.specs.Placed.{spot_of, placed, looked_up, run_rules}
 use Rattle.parity.specs.Calls.{by}

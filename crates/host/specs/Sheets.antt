@@ -2,7 +2,6 @@
 use Rattle.std.specs.Prelude.{◌≡◌, cond, List, ℕ, ◌*◌}
 use Rattle.design.specs.declared.Shelf.{Shelf}
 use Rattle.design.specs.declared.WriteBack.{WriteBack}
-use Rattle.design.specs.declared.WriteBack.TheVariants as WriteBack
 use Rattle.design.specs.Refusals.{number}
 use Rattle.design.specs.Sheet.{sheet_length, opened}
 use Rattle.design.specs.Shelf.{is_shelf, WroteBack}

@@ -5,9 +5,7 @@ use Rattle.design.specs.declared.Verdict.TheVariants.{Accepted, Refused}
 use Rattle.design.specs.Refusals.{number}
 use Rattle.design.specs.Sheet.{opened}
 use Rattle.placement.specs.declared.Placing.{Placing}
-use Rattle.placement.specs.declared.Placing.TheVariants as Placing
 use Rattle.placement.specs.declared.LookUp.{LookUp}
-use Rattle.placement.specs.declared.LookUp.TheVariants as LookUp
 use Rattle.placement.specs.Placed.{placed, looked_up}
 
 -- ---- the sheets, by their bytes

@@ -14,7 +14,6 @@ use Rattle.design.specs.Refusals.{Rule, number, first_broken}
 use Rattle.design.proofs.Lowest.{rising}
 use Rattle.layout.specs.declared.Start.{Start}
 use Rattle.layout.specs.declared.Text.{Text}
-use Rattle.layout.specs.declared.Text.TheVariants as Text
 use Rattle.layout.specs.Calls.{started, answer_by, buffer_by, Written, refused_rules, first_rules, lines_rules}
 
 pub started_unique : (s : List ℕ) (r r' : Start) → r ≡ started s → r' ≡ started s → r ≡ r'

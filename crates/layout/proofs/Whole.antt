@@ -17,7 +17,7 @@ use Rattle.design.specs.Refusals.{number, first_broken}
 use Rattle.design.specs.Tuples.{has, holds, before, shared, disks_below, again, none_twice, disks_even, pairs_even}
 use Rattle.design.specs.Sheet.{sheet_length, table_of, within_limits, filling_zero, sheet_rules, shelf_of, opened_by, opened}
 use Rattle.design.proofs.Lowest.{some_number}
-use Rattle.placement.specs.Layout.{Layout, layout_in, stripes, split_of, place_of, offset_of}
+use Rattle.placement.specs.Layout.{Layout, layout_in, split_of, place_of, offset_of}
 use Rattle.layout.specs.declared.Start.{Start}
 use Rattle.layout.specs.Text.{last_digits, decimal, place_text, joined, first_line, place_word, stripe_line, lines_from, refused_line, text_by, layout_text}
 use Rattle.layout.specs.Calls.{started, started_by}

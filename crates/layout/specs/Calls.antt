@@ -11,7 +11,6 @@ use Rattle.placement.specs.Layout.{layout_in, stripes}
 use Rattle.placement.specs.Placed.{range_rule}
 use Rattle.layout.specs.declared.Start.{Start}
 use Rattle.layout.specs.declared.Text.{Text}
-use Rattle.layout.specs.declared.Text.TheVariants as Text
 
 -- ---- opening: 0, the shelf and its stripes, or the refusal's number, the empty shelf and none
 

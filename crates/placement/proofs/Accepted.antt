@@ -19,7 +19,6 @@ use Rattle.design.proofs.Lowest.{rising}
 use Rattle.placement.specs.declared.Spot.{Spot}
 use Rattle.placement.specs.declared.Placing.TheVariants as Placing
 use Rattle.placement.specs.declared.LookUp.{LookUp}
-use Rattle.placement.specs.declared.LookUp.TheVariants as LookUp
 use Rattle.placement.specs.Layout.{layout_in, addresses, offsets}
 use Rattle.placement.specs.Placed.{range_rule, spot_of, place_rules, placed, placed_by, stands_at, look_up_rules, looked_up, looked_up_by, run_rules}
 

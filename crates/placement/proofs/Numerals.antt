@@ -15,9 +15,7 @@ use Rattle.design.proofs.Lowest.{verdict_number}
 use Rattle.design.proofs.Numerals.{case, first_of, rules_give}
 use Rattle.placement.specs.declared.Spot.{Spot}
 use Rattle.placement.specs.declared.Placing.{Placing}
-use Rattle.placement.specs.declared.Placing.TheVariants as Placing
 use Rattle.placement.specs.declared.LookUp.{LookUp}
-use Rattle.placement.specs.declared.LookUp.TheVariants as LookUp
 use Rattle.placement.specs.Layout.{Layout, layout_in, addresses, offsets, parity_of, stripe_at, position_at, address_of}
 use Rattle.placement.specs.Placed.{place_rules, placed_by, placed, look_up_rules, looked_up_by, looked_up, stands_at, run_rules, Ran}
 

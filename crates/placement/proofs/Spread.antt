@@ -16,7 +16,6 @@ use Rattle.design.specs.Shelf.{is_shelf}
 use Rattle.design.proofs.Counting.{alike, count_ext, Nth}
 use Rattle.design.proofs.Sums.{sum_ext, sum_const, count_swap, count_unique}
 use Rattle.placement.specs.declared.LookUp.{LookUp}
-use Rattle.placement.specs.declared.LookUp.TheVariants as LookUp
 use Rattle.placement.specs.Slots.{position_of}
 use Rattle.placement.specs.Layout.{Layout, layout_in, data_count, offsets, stripe_of, j_of, copy_of, tuple_of, parity_of, disk_of, split_of, tuple_at, stripe_at, position_at}
 use Rattle.placement.specs.Placed.{spot_of, stands_at, looked_up}

@@ -11,7 +11,6 @@ use lib.Arith.{digits_div, digits_mod}
 use borrow.Author.Tests.{eq-eqb, eqb-true, ne_eqb, eqb-false}
 use Rattle.design.proofs.Counting.{decided}
 use Rattle.placement.specs.declared.LookUp.{LookUp}
-use Rattle.placement.specs.declared.LookUp.TheVariants as LookUp
 use Rattle.placement.specs.Slots.{position_of, index_of}
 use Rattle.placement.specs.Layout.{Layout, stripes, data_count, addresses, offsets, stripe_of, j_of, parity_of, disk_of, offset_of, stripe_at, position_at, address_of}
 use Rattle.placement.specs.Placed.{spot_of, stands_at}

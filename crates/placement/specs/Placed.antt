@@ -8,9 +8,7 @@ use Rattle.design.specs.Refusals.{Rule, first_broken}
 use Rattle.design.specs.Shelf.{shelf_rule}
 use Rattle.placement.specs.declared.Spot.{Spot}
 use Rattle.placement.specs.declared.Placing.{Placing}
-use Rattle.placement.specs.declared.Placing.TheVariants as Placing
 use Rattle.placement.specs.declared.LookUp.{LookUp}
-use Rattle.placement.specs.declared.LookUp.TheVariants as LookUp
 use Rattle.placement.specs.Slots.{position_of}
 use Rattle.placement.specs.Layout.{Layout, layout_in, addresses, offsets, stripe_of, j_of, parity_of, disk_of, offset_of, stripe_at, position_at, address_of}
 

@@ -2,7 +2,6 @@
 use mathlib.Core.Path.{◌≡◌, sym, ◌∙◌}
 use mathlib.Core.Bool.{true}
 use native.Mathlib.Omega.{arith}
-use borrow.Author.Tests.{not-true, not-false}
 use Rattle.design.specs.Shelf.{is_shelf}
 use Rattle.layout.specs.Text.{first_line}
 use Rattle.layout.specs.Calls.{first_rules}

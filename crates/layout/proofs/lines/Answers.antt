@@ -7,7 +7,6 @@ use Prim.Native.Nat.{ℕ, ◌+◌, ◌*◌, ◌≤◌}
 use native.Mathlib.Nat.{div-lt_iff_lt-mul}
 use native.Mathlib.Omega.{arith}
 use lib.ListN.{length}
-use borrow.Author.Tests.{not-true, not-false}
 use Rattle.design.specs.Refusals.{Rule}
 use Rattle.design.specs.Shelf.{is_shelf}
 use Rattle.placement.specs.Layout.{layout_in, stripes}
@@ -15,7 +14,7 @@ use Rattle.layout.specs.Text.{lines_from}
 use Rattle.layout.specs.Calls.{line_room, lines_rules}
 use Rattle.layout.proofs.Calls.{accepted, refused, lines_kept, lines_not_a-shelf, lines_out_of_range, lines_short}
 use Rattle.layout.proofs.lines.Goals as goal
-use Rattle.layout.proofs.lines.Goals.{Else-buffer-n, Else-not-is_shelf, Else-stripes-first-2, Start}
+use Rattle.layout.proofs.lines.Goals.{Else-buffer-n, Else-not-is_shelf, Start}
 
 abbrev rules : Start → List Rule
 rules s = lines_rules s.args.shelf s.args.first s.args.n s.args.buffer.now
@@ -49,14 +48,12 @@ returns-then-stripes-first-2 c =
     (lines_out_of_range a.buffer.now a.shelf a.first a.n (shelf (goal.at.returns-then-stripes-first-2 c).Else-not-is_shelf) (omega (arith, c.stripes-stripes.ensures, c.if-stripes-first-2.true)))
 
 -- past the third the stripes are there
-range : (c : Else-stripes-first-2) → c.args.first + c.args.n ≤ stripes (layout_in c.args.shelf)
-range c = omega (arith, c.stripes-stripes.ensures, c.if-stripes-first.false, c.if-stripes-first-2.false)
-
 pub returns-then-buffer-n : goal.returns-then-buffer-n
 returns-then-buffer-n c =
     let a = c.args in
+    let range : a.first + a.n ≤ stripes (layout_in a.shelf) = omega (arith, c.stripes-stripes.ensures) in
     refused (rules (goal.at.returns-then-buffer-n c).Start) (text (goal.at.returns-then-buffer-n c).Start) a.buffer.now
-    (lines_short a.buffer.now a.shelf a.first a.n (shelf (goal.at.returns-then-buffer-n c).Else-not-is_shelf) (range (goal.at.returns-then-buffer-n c).Else-stripes-first-2)
+    (lines_short a.buffer.now a.shelf a.first a.n (shelf (goal.at.returns-then-buffer-n c).Else-not-is_shelf) range
     ((div-lt_iff_lt-mul {k = line_room} (omega arith)).0 c.if-buffer-n.true))
 
 -- past the fourth the buffer has room
@@ -65,11 +62,13 @@ room c = omega (arith, c.if-buffer-n.false)
 
 pub lines-requires : goal.lines-requires
 lines-requires c =
-    (shelf (goal.at.lines-requires c).Else-not-is_shelf, range (goal.at.lines-requires c).Else-stripes-first-2, room (goal.at.lines-requires c).Else-buffer-n)
+    let range : c.args.first + c.args.n ≤ stripes (layout_in c.args.shelf) = omega (arith, c.stripes-stripes.ensures) in
+    (shelf (goal.at.lines-requires c).Else-not-is_shelf, range, room (goal.at.lines-requires c).Else-buffer-n)
 
 pub returns : goal.returns
 returns c =
     let a = c.args in
+    let range : a.first + a.n ≤ stripes (layout_in a.shelf) = omega (arith, c.stripes-stripes.ensures) in
     accepted (rules (goal.at.returns c).Start) (text (goal.at.returns c).Start) a.buffer.now
-    (lines_kept a.buffer.now a.shelf a.first a.n (shelf (goal.at.returns c).Else-not-is_shelf) (range (goal.at.returns c).Else-stripes-first-2) (room (goal.at.returns c).Else-buffer-n))
+    (lines_kept a.buffer.now a.shelf a.first a.n (shelf (goal.at.returns c).Else-not-is_shelf) range (room (goal.at.returns c).Else-buffer-n))
     c.lines.ensures

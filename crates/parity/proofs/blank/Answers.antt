@@ -1,5 +1,4 @@
 -- `parity::blank` meets its contract: what is left is as the verdict says. Assumes nothing.
-use borrow.Author.Rules.{rules}
 use Rattle.parity.proofs.By.{accepted_gives, refused_gives}
 use Rattle.parity.proofs.blank.Goals as goal
 

@@ -1,7 +1,6 @@
 -- `parity::lose` meets its contract: the shelf handed back is as the verdict says. Assumes nothing.
 use mathlib.Core.Path.{sym, ap, ap₂, ◌∙◌}
 use native.Mathlib.Omega.{arith}
-use borrow.Author.Rules.{rules}
 use Rattle.design.specs.declared.Shelf.{Shelf}
 use Rattle.design.specs.declared.Verdict.{Verdict}
 use Rattle.design.specs.Loss.{with_loss}

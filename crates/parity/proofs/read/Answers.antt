@@ -1,6 +1,5 @@
 -- `parity::read` meets its contract: what it gives and leaves is as the verdict says. Assumes nothing.
 use mathlib.Core.Path.{refl, sym, ◌∙◌}
-use borrow.Author.Rules.{rules}
 use Rattle.parity.proofs.By.{refused_answers, accepted_answers, cost_given}
 use Rattle.parity.proofs.Accepted.{unit_accepted}
 use Rattle.parity.proofs.read.Goals as goal

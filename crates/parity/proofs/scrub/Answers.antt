@@ -1,7 +1,6 @@
 -- `parity::scrub` meets its contract: the count is as the verdict says. Assumes nothing.
 use mathlib.Core.Path.{sym, ap₂, ◌∙◌}
 use Prim.Native.Nat.{ℕ}
-use borrow.Author.Rules.{rules}
 use Rattle.design.specs.declared.Verdict.{Verdict}
 use Rattle.parity.specs.declared.Scrubbing.{Scrubbing}
 use Rattle.parity.specs.Calls.{scrubbed}

@@ -1,6 +1,5 @@
 -- `parity::show_place` meets its contract: the part handed out is as the verdict says. Assumes nothing.
 use mathlib.Core.Path.{sym, ◌∙◌}
-use borrow.Author.Rules.{rules}
 use Rattle.parity.specs.Calls.{place_shown}
 use Rattle.parity.proofs.By.{accepted_gives, refused_gives}
 use Rattle.parity.proofs.Accepted.{show_place_accepted}

@@ -1,6 +1,5 @@
 -- `parity::write_stripe` meets its contract: the counts and the image are as the verdict says. Assumes nothing.
 use mathlib.Core.Path.{refl, sym, ◌∙◌}
-use borrow.Author.Rules.{rules}
 use Rattle.parity.proofs.By.{refused_answers, accepted_answers, cost_given}
 use Rattle.parity.proofs.Accepted.{stripe_write_accepted}
 use Rattle.parity.proofs.write_stripe.Goals as goal

@@ -1,6 +1,5 @@
 -- `placement::run` meets its contract. The loop's invariant: the first i records are the places from the first address on. Assumes nothing.
 use mathlib.Core.Path.{◌≡◌, refl, sym, ap, ◌∙◌}
-use mathlib.Core.List.{List}
 use Prim.Native.Nat.{ℕ, ◌<◌}
 use native.Mathlib.Numerals.{add-one}
 use native.Mathlib.Omega.{arith}

@@ -1,6 +1,5 @@
 -- `placement::run_spot` meets its contract: the address is below N, which fits a machine word. Assumes nothing.
 use native.Mathlib.Omega.{arith}
-use borrow.Author.Rules.{rules}
 use Rattle.placement.proofs.Bounds.{bounds}
 use Rattle.placement.proofs.run_spot.Goals as goal
 

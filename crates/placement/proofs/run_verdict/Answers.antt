@@ -3,8 +3,6 @@
 use mathlib.Core.Path.{◌≡◌, sym, ◌∙◌}
 use mathlib.Core.Bool.{true}
 use native.Mathlib.Omega.{arith}
-use borrow.Author.Rules.{rules}
-use borrow.Author.Tests.{not-true, not-false}
 use Rattle.design.specs.Shelf.{is_shelf}
 use Rattle.placement.proofs.Running.{runs_accepted, run_not_a-shelf, run_out_of_range}
 use Rattle.placement.proofs.run_verdict.Goals as goal

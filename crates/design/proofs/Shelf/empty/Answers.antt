@@ -1,5 +1,4 @@
 -- `design::Shelf::empty` meets its contract. Assumes nothing.
-use borrow.Author.Rules.{rules}
 use Rattle.design.specs.Sheet.{empty_shelf}
 use Rattle.design.proofs.Shelf.empty.Goals as goal
 

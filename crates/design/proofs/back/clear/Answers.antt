@@ -1,11 +1,10 @@
 -- `design::back::clear` meets its contract. The loop's invariant: the bytes before i are zero, and the others as they were.
 -- Assumes nothing.
 use mathlib.Core.Path.{sym}
-use Prim.Native.Nat.{◌-◌}
 use native.Mathlib.Nat.{zero-add}
 use native.Mathlib.Omega.{arith}
-use lib.ListN.{length, replicate, length-replicate, get_or-replicate}
-use Rattle.design.proofs.Writing.{Begun, begun_none, begun_next, begun_whole}
+use lib.ListN.{length-replicate, get_or-replicate}
+use Rattle.design.proofs.Writing.{begun_none, begun_next, begun_whole}
 use Rattle.design.proofs.back.clear.Goals as goal
 
 pub loop-i-init : goal.loop-i-init

@@ -1,9 +1,8 @@
 -- `design::back::write_numbers` meets its contract. The loop's invariant: the numbers passed are packed from bit 48 on. The measure
 -- is what is left of n. Assumes nothing.
 use mathlib.Core.Path.{◌≡◌, refl, ap, ◌∙◌}
-use Prim.Native.Nat.{ℕ, ◌-◌, ◌≤◌}
+use Prim.Native.Nat.{ℕ}
 use native.Mathlib.Omega.{arith}
-use borrow.Author.Rules.{rules}
 use lib.ListN.{length, take}
 use Rattle.design.specs.Shelf.{packed, numbers_in}
 use Rattle.design.proofs.Packing.{length-packed, number_wrote}

@@ -1,8 +1,8 @@
 -- `design::planes::add` meets its contract. The loop's invariant: planes below i have taken the mask, and the carry is left (proofs/Rows).
 -- The measure is the number of planes left. Assumes nothing.
-use Prim.Native.Nat.{◌-◌, ◌<◌}
+use Prim.Native.Nat.{◌<◌}
 use native.Mathlib.Omega.{arith}
-use Rattle.design.proofs.Rows.{Adding, adding_none, adding_more, adding_next, adding_done}
+use Rattle.design.proofs.Rows.{adding_none, adding_more, adding_next, adding_done}
 use Rattle.design.proofs.planes.add.Goals as goal
 use Rattle.design.proofs.planes.add.Goals.{In-loop-carry}
 

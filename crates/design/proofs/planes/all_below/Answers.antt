@@ -1,12 +1,11 @@
 -- `design::planes::all_below` meets its contract. The loop's invariant: the planes passed have the bits of the value.
 -- The measure is the number of planes left. Assumes nothing.
 use mathlib.Core.Path.{◌≡◌, sym}
-use Prim.Native.Nat.{◌-◌, ◌≤◌}
 use native.Mathlib.Omega.{arith}
 use lib.Pow.{pow_pos}
 use Rattle.design.specs.inner.Planes.{plane_of}
 use Rattle.design.proofs.Bits.{bit_of}
-use Rattle.design.proofs.Compare.{AgreeTo, wanted_lt, word_agrees, agrees_word, agree_none, agree_next, all_true, all_false}
+use Rattle.design.proofs.Compare.{wanted_lt, word_agrees, agrees_word, agree_none, agree_next, all_true, all_false}
 use Rattle.design.proofs.planes.all_below.Goals as goal
 
 pub overflow_sub-below : goal.overflow_sub-below

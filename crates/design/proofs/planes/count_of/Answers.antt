@@ -1,7 +1,7 @@
 -- `design::planes::count_of` meets its contract. The loop's invariant: n is the lane of the planes passed.
 -- The measure is the number of planes left. Assumes nothing.
 use mathlib.Core.Path.{◌≡◌}
-use Prim.Native.Nat.{◌+◌, ◌-◌, ◌*◌, ◌/◌, ◌%◌, ◌^◌, ◌≤◌}
+use Prim.Native.Nat.{◌+◌, ◌*◌, ◌/◌, ◌%◌, ◌^◌}
 use native.Mathlib.Omega.{arith}
 use lib.Bits.{bit_and}
 use Rattle.design.specs.inner.Planes.{lane, plane_of}

@@ -1,5 +1,4 @@
 -- `design::read::filling_zero` meets its contract: the filling is what is left of the last byte. Assumes nothing.
-use borrow.Author.Rules.{rules}
 use native.Mathlib.Omega.{arith}
 use Rattle.fields.specs.Field.{field}
 use Rattle.fields.proofs.Laws.{is_field_iff}

@@ -1,10 +1,9 @@
 -- `design::read::open` meets its contract: rules 1 to 4 by the header's fields, the others by `open_table`. Assumes nothing.
-use borrow.Author.Rules.{rules}
-use borrow.Author.Tests.{not-true, not-false, le-leb, lt-leb, eq-eqb, ne_eqb}
+use borrow.Author.Tests.{le-leb, lt-leb, eq-eqb, ne_eqb}
 use mathlib.Core.Path.{◌≡◌, sym, ap₂, ◌∙◌}
 use mathlib.Core.Bool.{true}
 use mathlib.Core.List.{List}
-use Prim.Native.Nat.{ℕ, ◌*◌}
+use Prim.Native.Nat.{ℕ, ◌*◌, ◌≤◌}
 use lib.Dec.{leb, eqb}
 use lib.ListN.{length}
 use native.Mathlib.Omega.{arith}
@@ -30,10 +29,10 @@ sheet c = c.args.sheet.now
 
 -- it is long enough, and of the edition asked
 long : (c : After-within_limits) → leb 6 (length (sheet c)) ≡ true
-long c = le-leb _ _ c.if-sheet-lt6.false
+long c = let enough : 6 ≤ length (sheet c) = omega arith in le-leb _ _ enough
 
 edition : (c : After-within_limits) → eqb (edition_of (sheet c)) 1 ≡ true
-edition c = eq-eqb _ _ (sym c.read_header-header.ensures.0 ∙ c.if-header-ne1.false)
+edition c = let one : edition_of (sheet c) ≡ 1 = omega (arith, c.read_header-header.ensures.0) in eq-eqb _ _ one
 
 tested : (c : After-within_limits) → let s = sheet c in c.within_limits.result ≡ within_limits (v_of s) (k_of s) (b_of s) (t_of s) (u_of s)
 tested c =

@@ -1,7 +1,5 @@
 -- `design::read::open_table` meets its contract: each test of the code is the test of its rule, of the table that was read.
 -- Assumes nothing.
-use borrow.Author.Rules.{rules}
-use borrow.Author.Tests.{not-true, not-false}
 use mathlib.Core.Path.{◌≡◌, sym, ap, ◌∙◌}
 use mathlib.Core.Bool.{true}
 use Prim.Native.Nat.{◌*◌}

@@ -1,5 +1,4 @@
 -- `design::read::refused` meets its contract: the shelf beside the refusal is the empty one. Assumes nothing.
-use borrow.Author.Rules.{rules}
 use Rattle.design.specs.Sheet.{opened_by}
 use Rattle.design.proofs.read.refused.Goals as goal
 

@@ -1,5 +1,4 @@
 -- `design::read::sheet_length` meets its contract. Assumes nothing.
-use borrow.Author.Rules.{rules}
 use mathlib.Core.Path.{refl}
 use Rattle.design.specs.Sheet.{sheet_length}
 use Rattle.design.proofs.read.sheet_length.Goals as goal

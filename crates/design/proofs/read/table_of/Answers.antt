@@ -1,9 +1,9 @@
 -- `design::read::table_of` meets its contract. The loop's invariant: the entries before i are the sheet's numbers, the others zero.
 -- The measure is the number of entries left. Assumes nothing.
 use mathlib.Core.Path.{◌≡◌, refl, subst}
-use Prim.Native.Nat.{ℕ, ◌-◌, ◌≤◌}
+use Prim.Native.Nat.{ℕ}
 use native.Mathlib.Omega.{arith}
-use lib.ListN.{length, length-set}
+use lib.ListN.{length-set}
 use Rattle.fields.proofs.Laws.{is_field_iff}
 use Rattle.design.specs.Sheet.{sheet_length, number_of}
 use Rattle.design.proofs.Reading.{number_lt, Filled, filled_none, filled_more, filled-table}

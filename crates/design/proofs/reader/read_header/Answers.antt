@@ -1,6 +1,6 @@
 -- `design::reader::read_header` meets its contract: each field stands where the fields before it end, inside the six bytes of the
 -- header. Assumes nothing.
-use Rattle.std.proofs.Common.{arith, ◌≡◌, ◌+◌, ◌*◌, ◌^◌, ◌<◌, ◌≤◌, ℕ, List, length, true}
+use Rattle.std.proofs.Common.{arith, ◌≡◌, ◌+◌, ◌^◌, ◌<◌, ◌≤◌, ℕ, List, length, true}
 use Rattle.fields.specs.Field.{is_field}
 use Rattle.fields.proofs.Laws.{is_field_iff}
 use Rattle.design.proofs.reader.read_header.Goals as goal

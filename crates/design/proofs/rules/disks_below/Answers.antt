@@ -1,13 +1,7 @@
 -- `design::rules::disks_below` meets its contract. The loop's invariant: the entries before i are below v. Assumes nothing.
-use mathlib.Core.Path.{◌≡◌, sym}
-use mathlib.Core.Bool.{true}
-use Prim.Native.Nat.{◌-◌, ◌≤◌}
+use mathlib.Core.Path.{sym}
 use native.Mathlib.Omega.{arith}
-use lib.Dec.{ltb}
-use lib.ListN.{get_or}
-use borrow.Author.Rules.{rules}
 use borrow.Author.Tests.{lt-ltb, le-ltb}
-use Rattle.design.specs.Count.{every}
 use Rattle.design.proofs.Counting.{every_not, every_none, every_next, every_end}
 use Rattle.design.proofs.rules.disks_below.Goals as goal
 

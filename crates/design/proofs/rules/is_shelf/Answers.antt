@@ -2,8 +2,6 @@
 -- The shelf, whose table is lent, is t1 in the walk. Assumes nothing.
 use mathlib.Core.Path.{◌≡◌, sym, ◌∙◌}
 use mathlib.Core.Bool.{Bool, true}
-use borrow.Author.Rules.{rules}
-use borrow.Author.Tests.{not-true, not-false}
 use Rattle.design.specs.declared.Shelf.{Shelf}
 use Rattle.design.specs.Sheet.{within_limits}
 use Rattle.design.specs.inner.Table.{is_table}

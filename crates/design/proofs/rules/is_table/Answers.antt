@@ -1,14 +1,12 @@
 -- `design::rules::is_table` meets its contract: each test that is called is the one of the definition, and what a call requires follows from
 -- the tests that passed before it. Assumes nothing.
 use mathlib.Core.Path.{◌≡◌, sym, ◌∙◌}
-use mathlib.Core.Bool.{Bool, true, false, not}
+use mathlib.Core.Bool.{Bool, true, false}
 use mathlib.Core.List.{List, [], ◌∷◌}
 use Prim.Native.Nat.{ℕ, ◌*◌}
 use native.Mathlib.Nat.{mul-le-mul_left}
 use native.Mathlib.Omega.{arith}
 use lib.ListN.{get_or}
-use borrow.Author.Rules.{rules}
-use borrow.Author.Tests.{not-true, not-false}
 use Rattle.design.specs.Tuples.{Design, in_table, disks_below, none_twice, disks_even, pairs_even}
 use Rattle.design.specs.Shelf.{zero_past}
 use Rattle.design.specs.inner.Table.{is_table}

@@ -1,16 +1,10 @@
 -- `design::rules::none_twice` meets its contract. The loop's invariant: no disk stands twice in a tuple before q. Assumes nothing.
-use mathlib.Core.Path.{◌≡◌, sym, ◌∙◌}
-use mathlib.Core.Bool.{Bool, true}
-use mathlib.Core.List.{List}
-use Prim.Native.Nat.{ℕ, ◌+◌, ◌-◌, ◌*◌, ◌≤◌}
+use mathlib.Core.Path.{sym, ◌∙◌}
 use native.Mathlib.Nat.{mul-le-mul_right}
 use native.Mathlib.Omega.{arith}
-use lib.ListN.{get_or}
-use borrow.Author.Rules.{rules}
-use Rattle.design.specs.Count.{every}
 use Rattle.design.specs.Tuples.{none_twice}
 use Rattle.design.proofs.Counting.{fails, every_not, every_none, every_next, every_end}
-use Rattle.design.proofs.Twice.{once_up_to, none_repeated}
+use Rattle.design.proofs.Twice.{none_repeated}
 use Rattle.design.proofs.rules.none_twice.Invariants.{tuple, once}
 use Rattle.design.proofs.rules.none_twice.Goals as goal
 

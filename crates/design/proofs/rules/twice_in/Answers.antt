@@ -1,16 +1,13 @@
 -- `design::rules::twice_in` meets its contract. The outer loop's invariant: no disk before position i stands again; the inner loop's: the disk
 -- at i stands at no position from i + 1 to j. The first pair found is then that of the first position whose disk stands again. Assumes nothing.
 use mathlib.Core.Path.{◌≡◌, sym, ap}
-use mathlib.Core.Bool.{false, not, true}
-use mathlib.Core.List.{List}
-use Prim.Native.Nat.{ℕ, ◌+◌, ◌-◌, ◌≤◌, ◌<◌}
+use mathlib.Core.Bool.{false, not}
 use native.Mathlib.Omega.{arith}
-use lib.ListN.{get_or}
 use borrow.Author.Count.{below_more}
 use Rattle.design.specs.Tuples.{again}
-use Rattle.design.proofs.Twice.{once_up_to, again_of, again_none, none_repeated, repeated-first}
+use Rattle.design.proofs.Twice.{again_of, again_none, none_repeated, repeated-first}
 use Rattle.design.proofs.Counting.{every_none, every_next}
-use Rattle.design.proofs.rules.twice_in.Invariants.{tuple_at, Passed}
+use Rattle.design.proofs.rules.twice_in.Invariants.{tuple_at}
 use Rattle.design.proofs.rules.twice_in.Goals as goal
 
 pub search-init : goal.search-init

@@ -1,13 +1,8 @@
 -- `design::tally::disks_even` meets its contract. The loop's invariant: the disks passed are counted r times.
 -- The measure is the number of disks left. Assumes nothing.
-use mathlib.Core.Path.{◌≡◌, sym, ◌∙◌}
-use mathlib.Core.Bool.{true}
-use Prim.Native.Nat.{◌-◌, ◌≤◌}
+use mathlib.Core.Path.{sym, ◌∙◌}
 use native.Mathlib.Omega.{arith}
-use lib.Dec.{eqb}
 use borrow.Author.Tests.{eq-eqb, ne_eqb}
-use Rattle.design.specs.Count.{every}
-use Rattle.design.specs.inner.Planes.{counted}
 use Rattle.design.proofs.Counting.{every_not, every_none, every_next, every_end}
 use Rattle.design.proofs.tally.disks_even.Goals as goal
 

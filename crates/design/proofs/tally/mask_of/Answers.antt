@@ -1,10 +1,9 @@
 -- `design::tally::mask_of` meets its contract. The loop's invariant: the mask is that of the positions passed.
 -- The measure is what is left of the tuple. Assumes nothing.
 use mathlib.Core.Path.{◌≡◌}
-use Prim.Native.Nat.{ℕ, ◌+◌, ◌-◌, ◌≤◌, ◌<◌}
+use Prim.Native.Nat.{ℕ, ◌+◌, ◌<◌}
 use native.Mathlib.Omega.{arith}
 use lib.ListN.{get_or}
-use Rattle.design.specs.inner.Tally.{MaskOf}
 use Rattle.design.proofs.Masks.{mask_none, mask_next}
 use Rattle.design.proofs.tally.mask_of.Goals as goal
 use Rattle.design.proofs.tally.mask_of.Goals.{In-loop-p, Start}

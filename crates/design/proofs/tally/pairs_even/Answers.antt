@@ -1,13 +1,8 @@
 -- `design::tally::pairs_even` meets its contract. The loop's invariant: every two of the disks passed are counted together lambda times.
 -- The measure is the number of disks left. Assumes nothing.
-use mathlib.Core.Path.{◌≡◌, sym, ◌∙◌}
-use mathlib.Core.Bool.{true}
-use Prim.Native.Nat.{◌-◌, ◌≤◌}
+use mathlib.Core.Path.{sym, ◌∙◌}
 use native.Mathlib.Omega.{arith}
-use lib.Dec.{eqb}
-use borrow.Author.Tests.{not-true, not-false}
-use Rattle.design.specs.Count.{every}
-use Rattle.design.specs.inner.Planes.{plane_of, counted}
+use Rattle.design.specs.inner.Planes.{plane_of}
 use Rattle.design.proofs.Counting.{every_not, every_none, every_next, every_end}
 use Rattle.design.proofs.Compare.{no_pair_even}
 use Rattle.design.proofs.tally.pairs_even.Goals as goal

@@ -1,12 +1,11 @@
 -- `design::tally::tally` meets its contract. The loop's invariant: the tuples passed are tallied.
 -- The measure is the number of tuples left. Assumes nothing.
 use mathlib.Core.Path.{◌≡◌}
-use Prim.Native.Nat.{ℕ, ◌*◌, ◌+◌, ◌-◌, ◌≤◌}
+use Prim.Native.Nat.{ℕ, ◌*◌, ◌+◌, ◌≤◌}
 use native.Mathlib.Nat.{mul-le-mul_right}
 use native.Mathlib.Omega.{arith}
-use lib.ListN.{length, length-replicate}
+use lib.ListN.{length-replicate}
 use Rattle.design.specs.Tuples.{in_table}
-use Rattle.design.specs.inner.Tally.{Tallied}
 use Rattle.design.proofs.Tallies.{tallied_none, tallied_next, shared-le}
 use Rattle.design.proofs.tally.tally.Goals as goal
 use Rattle.design.proofs.tally.tally.Goals.{In-loop-q}

@@ -1,12 +1,12 @@
 -- `design::tally::tally_tuple` meets its contract. The loop's invariant: the mask is added to the rows of the disks at the positions passed.
 -- The measure is what is left of the tuple. Assumes nothing.
 use mathlib.Core.Path.{◌≡◌}
-use Prim.Native.Nat.{ℕ, ◌+◌, ◌-◌, ◌^◌, ◌≤◌, ◌<◌}
+use Prim.Native.Nat.{ℕ, ◌+◌, ◌^◌, ◌<◌}
 use native.Mathlib.Omega.{arith}
-use lib.ListN.{length, get_or}
+use lib.ListN.{get_or}
 use Rattle.design.specs.inner.Planes.{bit, counted}
 use Rattle.design.proofs.Bits.{bit-lt}
-use Rattle.design.proofs.Tallies.{AddedRows, rows_none, rows_next, rows_le, tuple_added}
+use Rattle.design.proofs.Tallies.{rows_none, rows_next, rows_le, tuple_added}
 use Rattle.design.proofs.tally.tally_tuple.Goals as goal
 use Rattle.design.proofs.tally.tally_tuple.Goals.{At-loop-p, In-loop-p, Start}
 

@@ -1,11 +1,8 @@
 -- `host::numbers::put_all` meets its contract. The loop's invariant: what is left to put gives what is promised. The measure is the
 -- number of numbers left. Assumes nothing.
-use mathlib.Core.Path.{◌≡◌, refl, ◌∙◌}
-use Prim.Native.Nat.{◌-◌, ◌≤◌}
+use mathlib.Core.Path.{refl, ◌∙◌}
 use native.Mathlib.Omega.{arith}
-use lib.ListN.{length}
-use Rattle.host.specs.Numbers.{numbered}
-use Rattle.host.proofs.Numbering.{left_to_put, put-start, put_more, put_done}
+use Rattle.host.proofs.Numbering.{put-start, put_more, put_done}
 use Rattle.host.proofs.numbers.put_all.Goals as goal
 
 pub loop-i-init : goal.loop-i-init

@@ -1,13 +1,12 @@
 -- `host::places::put_run` meets its contract. The loop's invariant: what is left to write gives what is promised. The measure is the
 -- number of records left. Assumes nothing.
-use mathlib.Core.Path.{◌≡◌, refl, ◌∙◌}
-use Prim.Native.Nat.{◌-◌, ◌/◌, ◌≤◌}
+use mathlib.Core.Path.{refl, ◌∙◌}
+use Prim.Native.Nat.{◌/◌}
 use native.Mathlib.Omega.{arith}
 use lib.ListN.{length}
-use Rattle.placement.specs.Layout.{layout_in, addresses}
+use Rattle.placement.specs.Layout.{layout_in}
 use Rattle.placement.proofs.Bounds.{bounds}
-use Rattle.host.specs.Places.{spots_into}
-use Rattle.host.proofs.Spotted.{spots_left, run_start, run_more, run_done}
+use Rattle.host.proofs.Spotted.{run_start, run_more, run_done}
 use Rattle.host.proofs.places.put_run.Goals as goal
 
 pub loop-i-init : goal.loop-i-init

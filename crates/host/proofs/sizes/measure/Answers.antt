@@ -1,6 +1,5 @@
 -- `host::sizes::measure` meets its contract: there are at most 2,048 disk numbers, and the image has at most 2 ^ 45 bytes. Assumes
 -- nothing.
-use borrow.Author.Tests.{not-true, not-false}
 use mathlib.Core.Path.{◌≡◌, refl, sym, ap₂, ◌∙◌}
 use mathlib.Core.Bool.{true}
 use Prim.Native.Nat.{ℕ, ◌*◌, ◌≤◌}

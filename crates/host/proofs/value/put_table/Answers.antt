@@ -2,9 +2,9 @@
 -- number of entries left. Assumes nothing.
 use mathlib.Core.Path.{◌≡◌, sym, ap, ◌∙◌}
 use mathlib.Core.List.{List, ◌++◌, append-nil}
-use Prim.Native.Nat.{ℕ, ◌+◌, ◌-◌, ◌≤◌}
+use Prim.Native.Nat.{ℕ, ◌+◌}
 use native.Mathlib.Omega.{arith}
-use lib.ListN.{length, take, length-set}
+use lib.ListN.{take, length-set}
 use lib.Seq.{take_all}
 use Rattle.host.proofs.Copying.{pasted_more}
 use Rattle.host.proofs.value.put_table.Goals as goal

@@ -1,9 +1,8 @@
 -- `host::value::table` meets its contract. The loop's invariant: the entries passed are the bytes after the numbers. The measure is
 -- the number of entries left. Assumes nothing.
 use mathlib.Core.Path.{◌≡◌, refl, sym, ◌∙◌}
-use Prim.Native.Nat.{◌-◌, ◌≤◌}
 use native.Mathlib.Omega.{arith}
-use lib.ListN.{length, take, drop, length-set, length-drop}
+use lib.ListN.{drop, length-set, length-drop}
 use lib.Seq.{take_all}
 use Rattle.host.proofs.Copying.{copied_more}
 use Rattle.host.proofs.value.table.Goals as goal

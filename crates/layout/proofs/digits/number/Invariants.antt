@@ -1,5 +1,5 @@
 use mathlib.Core.Path.{◌≡◌}
-use Prim.Native.Nat.{◌+◌, ◌-◌, ◌≤◌}
+use Prim.Native.Nat.{◌+◌, ◌≤◌}
 use lib.ListN.{length}
 use Rattle.layout.specs.Text.{decimal}
 use Rattle.layout.specs.inner.Steps.{put}

@@ -1,10 +1,8 @@
 -- `layout::digits::places` meets its contract. The loop's invariant: the digits counted and those of what is left are n's, and one is
 -- counted twice. The measure is what is left. Assumes nothing.
-use mathlib.Core.Path.{◌≡◌, ap}
-use Prim.Native.Nat.{◌+◌}
+use mathlib.Core.Path.{ap}
 use native.Mathlib.Omega.{arith}
 use lib.ListN.{length}
-use Rattle.layout.specs.Text.{decimal}
 use Rattle.layout.proofs.Decimals.{decimal-one, decimal_next, digits_most}
 use Rattle.layout.proofs.digits.places.Goals as goal
 

@@ -1,12 +1,12 @@
 -- `layout::write::data` meets its contract. The loop's invariant: the first j places are written. Assumes nothing.
 use mathlib.Core.Path.{◌≡◌}
 use mathlib.Core.List.{List}
-use Prim.Native.Nat.{ℕ, ◌+◌, ◌-◌, ◌≤◌, ◌<◌}
+use Prim.Native.Nat.{ℕ, ◌+◌, ◌≤◌, ◌<◌}
 use native.Mathlib.Omega.{arith}
 use Rattle.placement.specs.Slots.{position_of}
 use Rattle.placement.proofs.Stepping.{position_below}
 use Rattle.layout.specs.Text.{joined}
-use Rattle.layout.specs.inner.Steps.{Fits, Put, entry_word, data_words}
+use Rattle.layout.specs.inner.Steps.{Fits, entry_word, data_words}
 use Rattle.layout.proofs.Puts.{kept_length, put_nothing}
 use Rattle.layout.proofs.Words.{fewer_fit, next_fits, put_next}
 use Rattle.layout.proofs.write.data.Goals as goal

@@ -1,7 +1,7 @@
 -- `layout::write::first` meets its contract. The loop's invariant: the first i of the numbers after v are written. Assumes nothing.
 use mathlib.Core.Path.{◌≡◌}
 use mathlib.Core.List.{List, [], ◌∷◌, ◌++◌}
-use Prim.Native.Nat.{ℕ, ◌+◌, ◌-◌, ◌≤◌}
+use Prim.Native.Nat.{ℕ, ◌+◌}
 use native.Mathlib.Omega.{arith}
 use Rattle.design.proofs.ShelfTests.{shelf_parts}
 use Rattle.layout.specs.Text.{line_end, joined}

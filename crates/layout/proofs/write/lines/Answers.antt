@@ -1,6 +1,6 @@
 -- `layout::write::lines` meets its contract. The loop's invariant: the lines of the first i stripes are written. Assumes nothing.
 use mathlib.Core.Path.{◌≡◌}
-use Prim.Native.Nat.{◌-◌, ◌*◌, ◌≤◌}
+use Prim.Native.Nat.{◌*◌}
 use native.Mathlib.Omega.{arith}
 use Rattle.design.proofs.ShelfTests.{shelf_parts}
 use Rattle.placement.proofs.Bounds.{bounds}
@@ -8,7 +8,7 @@ use Rattle.placement.proofs.PerEntry.{ranks_at}
 use Rattle.layout.specs.Text.{joined}
 use Rattle.layout.specs.inner.Steps.{Ranked}
 use Rattle.layout.proofs.Puts.{put_nothing}
-use Rattle.layout.proofs.Printing.{Printed, reckoned, line_fits, printed_next, printed_length, printed_all}
+use Rattle.layout.proofs.Printing.{reckoned, line_fits, printed_next, printed_length, printed_all}
 use Rattle.layout.proofs.write.lines.Goals as goal
 use Rattle.layout.proofs.write.lines.Goals.{After-ranks-ranks}
 

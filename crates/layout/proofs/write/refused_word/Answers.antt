@@ -1,9 +1,8 @@
 -- `layout::write::refused_word` meets its contract. The loop's invariant: the first i letters are written. Assumes nothing.
 use mathlib.Core.Path.{refl, sym}
-use Prim.Native.Nat.{◌-◌}
 use native.Mathlib.Nat.{zero-add}
 use native.Mathlib.Omega.{arith}
-use Rattle.design.proofs.Writing.{Begun, begun_none, begun_next, begun_all}
+use Rattle.design.proofs.Writing.{begun_none, begun_next, begun_all}
 use Rattle.layout.specs.inner.Steps.{put}
 use Rattle.layout.proofs.write.refused_word.Goals as goal
 

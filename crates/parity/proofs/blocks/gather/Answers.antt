@@ -1,12 +1,12 @@
 -- `parity::blocks::gather` meets its contract. The loop's invariant: the blocks of unit n before block q are those of the exclusive-or.
 -- Assumes nothing.
 use mathlib.Core.Path.{◌≡◌, sym, ap, ◌∙◌}
-use Prim.Native.Nat.{ℕ, ◌-◌, ◌*◌}
+use Prim.Native.Nat.{ℕ}
 use native.Mathlib.Omega.{arith}
 use lib.ListN.{length}
-use Rattle.parity.specs.inner.Blocks.{rest_of, numbered, blocks_at, Within}
+use Rattle.parity.specs.inner.Blocks.{numbered, blocks_at, Within}
 use Rattle.parity.proofs.Rest.{rest_size}
-use Rattle.parity.proofs.ByBlocks.{block_rest, block_within, Filled, filled_none, filled_fits, filled_next, filled-all}
+use Rattle.parity.proofs.ByBlocks.{block_rest, block_within, filled_none, filled_fits, filled_next, filled-all}
 use Rattle.parity.proofs.blocks.gather.Goals as goal
 use Rattle.parity.proofs.blocks.gather.Goals.{After-rest-block, In-loop-q, Start}
 

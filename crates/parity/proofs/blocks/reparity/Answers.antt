@@ -1,14 +1,14 @@
 -- `parity::blocks::reparity` meets its contract. The loop's invariant: the blocks of unit k before block q are those of the exclusive-or
 -- of the others but unit i and of the lent unit. Assumes nothing.
 use mathlib.Core.Path.{◌≡◌, sym, ap, ◌∙◌}
-use Prim.Native.Nat.{ℕ, ◌+◌, ◌-◌, ◌*◌, ◌≤◌}
+use Prim.Native.Nat.{ℕ, ◌+◌, ◌*◌, ◌≤◌}
 use native.Mathlib.Omega.{arith}
 use lib.ListN.{length}
 use Rattle.parity.specs.Units.{unit_at, xor_u}
 use Rattle.parity.specs.inner.Blocks.{rest_of, numbered, blocks_at, Within}
 use Rattle.parity.proofs.Xor.{xor_u-length}
 use Rattle.parity.proofs.Rest.{rest_size}
-use Rattle.parity.proofs.ByBlocks.{block_room, block_mixed, Filled, filled_none, filled_fits, filled_within, filled-rest, filled_next, filled-all}
+use Rattle.parity.proofs.ByBlocks.{block_room, block_mixed, filled_none, filled_fits, filled_within, filled-rest, filled_next, filled-all}
 use Rattle.parity.proofs.blocks.reparity.Goals as goal
 use Rattle.parity.proofs.blocks.reparity.Goals.{After-mix_out, After-rest-block, In-loop-q, Start}
 

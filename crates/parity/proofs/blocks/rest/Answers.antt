@@ -1,10 +1,8 @@
 -- `parity::blocks::rest` meets its contract. The loop's invariant: the block is the exclusive-or of the blocks before that of unit j
 -- but that of unit i. Assumes nothing.
 use mathlib.Core.Path.{refl, sym, ◌∙◌}
-use Prim.Native.Nat.{◌-◌, ◌≤◌}
 use native.Mathlib.Omega.{arith}
-use Rattle.parity.specs.inner.Blocks.{numbered, blocks_at}
-use Rattle.parity.proofs.Rest.{Gathered, gathered_none, gathered_next, gathered_over, gathered_all}
+use Rattle.parity.proofs.Rest.{gathered_none, gathered_next, gathered_over, gathered_all}
 use Rattle.parity.proofs.blocks.rest.Goals as goal
 use Rattle.parity.proofs.blocks.rest.Goals.{then-j-i, else-j-i}
 

@@ -1,11 +1,11 @@
 -- `parity::blocks::restore` meets its contract. The loop's invariant: the blocks of unit i before block q are restored. Assumes nothing.
 use mathlib.Core.Path.{◌≡◌, sym, ap, ◌∙◌}
-use Prim.Native.Nat.{ℕ, ◌+◌, ◌-◌, ◌*◌, ◌≤◌}
+use Prim.Native.Nat.{ℕ, ◌+◌, ◌*◌, ◌≤◌}
 use native.Mathlib.Omega.{arith}
 use lib.ListN.{length}
-use Rattle.parity.specs.inner.Blocks.{rest_of, numbered, blocks_at, Within}
+use Rattle.parity.specs.inner.Blocks.{numbered, blocks_at, Within}
 use Rattle.parity.proofs.Rest.{rest_size}
-use Rattle.parity.proofs.ByBlocks.{Filled, filled_none, filled_fits, filled_within, filled-rest, filled_next, filled-all}
+use Rattle.parity.proofs.ByBlocks.{filled_none, filled_fits, filled_within, filled-rest, filled_next, filled-all}
 use Rattle.parity.proofs.blocks.restore.Goals as goal
 use Rattle.parity.proofs.blocks.restore.Goals.{After-rest-block, In-loop-q, Start}
 

@@ -1,10 +1,8 @@
 -- `parity::bytes::copy` meets its contract. The loop's invariant: the bytes before i are those of `from`. Assumes nothing.
 use mathlib.Core.Path.{refl, sym}
-use Prim.Native.Nat.{◌-◌}
 use native.Mathlib.Nat.{zero-add}
 use native.Mathlib.Omega.{arith}
-use lib.ListN.{length}
-use Rattle.design.proofs.Writing.{Begun, begun_none, begun_next, begun_whole}
+use Rattle.design.proofs.Writing.{begun_none, begun_next, begun_whole}
 use Rattle.parity.proofs.bytes.copy.Goals as goal
 
 pub loop-i-init : goal.loop-i-init

@@ -1,9 +1,6 @@
 -- `parity::bytes::is_zero` meets its contract. The loop's invariant: `any` is zero exactly when the bytes before i are. Assumes nothing.
-use mathlib.Core.Path.{◌≡◌, refl}
-use Prim.Native.Nat.{◌-◌, ◌≤◌}
+use mathlib.Core.Path.{refl}
 use native.Mathlib.Omega.{arith}
-use lib.Dec.{eqb}
-use lib.ListN.{length, take}
 use Rattle.parity.specs.Units.{is_zero}
 use Rattle.parity.proofs.Writing.{zero_next, zero_all}
 use Rattle.parity.proofs.bytes.is_zero.Goals as goal

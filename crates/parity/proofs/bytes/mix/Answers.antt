@@ -2,13 +2,12 @@
 -- Assumes nothing.
 use mathlib.Core.Path.{refl, sym, ap, ◌∙◌}
 use mathlib.Core.Logic.{inr}
-use Prim.Native.Nat.{ℕ, ◌-◌}
+use Prim.Native.Nat.{ℕ}
 use native.Mathlib.Nat.{zero-add}
 use native.Mathlib.Omega.{arith}
 use lib.Bits.{bit_xor}
-use lib.ListN.{length, get_or}
-use Rattle.design.proofs.Writing.{Begun, begun_none, begun_next, begun_whole}
-use Rattle.parity.specs.Units.{xor_u}
+use lib.ListN.{get_or}
+use Rattle.design.proofs.Writing.{begun_none, begun_next, begun_whole}
 use Rattle.parity.proofs.Xor.{xor_u-length}
 use Rattle.parity.proofs.Writing.{begun_rest, byte-xor}
 use Rattle.parity.proofs.bytes.mix.Goals as goal

@@ -1,15 +1,14 @@
 -- `parity::checking::count_wrong` meets its contract. The loop's invariant: the wrong stripes before s are counted. Assumes nothing.
 use mathlib.Core.Path.{◌≡◌, refl, sym, ap, ◌∙◌}
 use mathlib.Core.Bool.{not}
-use Prim.Native.Nat.{◌-◌, ◌≤◌, ◌<◌}
+use Prim.Native.Nat.{◌≤◌, ◌<◌}
 use native.Mathlib.Omega.{arith}
 use lib.ListN.{length, take}
 use lib.Seq.{length-take-le}
-use borrow.Author.Rules.{rules}
 use Rattle.placement.specs.Layout.{layout_in, stripes}
 use Rattle.parity.specs.Units.{is_zero}
 use Rattle.parity.proofs.Prepared.{Prepared, shape_small, units-placed}
-use Rattle.parity.proofs.Searching.{Searched, front_size, front_is, searched_none, found_few, searched_all, searched_wrong, searched_right}
+use Rattle.parity.proofs.Searching.{front_size, front_is, searched_none, found_few, searched_all, searched_wrong, searched_right}
 use Rattle.parity.proofs.checking.count_wrong.Goals as goal
 use Rattle.parity.proofs.checking.count_wrong.Goals.{After-gather, After-shape_of-shape, At-loop-s, In-loop-s, then-not-is_zero, else-not-is_zero}
 

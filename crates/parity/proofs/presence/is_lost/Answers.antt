@@ -1,5 +1,4 @@
 -- `parity::presence::is_lost` meets its contract: each arm is told the loss. Assumes nothing.
-use borrow.Author.Rules.{rules}
 use Rattle.design.specs.Loss.{lost_in}
 use Rattle.parity.proofs.presence.is_lost.Goals as goal
 

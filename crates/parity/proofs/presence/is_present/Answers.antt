@@ -1,7 +1,6 @@
 -- `parity::presence::is_present` meets its contract: the disk of a unit is found by the units of a disk. Assumes nothing.
 use mathlib.Core.Path.{ap}
 use mathlib.Core.Bool.{not}
-use borrow.Author.Rules.{rules}
 use Rattle.parity.specs.Stripe.{present}
 use Rattle.parity.proofs.Home.{depth_pos}
 use Rattle.parity.proofs.presence.is_present.Goals as goal

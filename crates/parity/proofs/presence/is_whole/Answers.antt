@@ -1,5 +1,4 @@
 -- `parity::presence::is_whole` meets its contract: each arm is told the loss. Assumes nothing.
-use borrow.Author.Rules.{rules}
 use Rattle.design.specs.Loss.{is_whole}
 use Rattle.parity.proofs.presence.is_whole.Goals as goal
 

@@ -2,7 +2,6 @@
 use mathlib.Core.Path.{refl}
 use mathlib.Core.Bool.{true≢false}
 use Prim.Native.Nat.{ℕ}
-use borrow.Author.Rules.{rules}
 use borrow.Author.Tests.{eq-eqb}
 use Rattle.design.specs.Loss.{is_whole, lost_in}
 use Rattle.parity.proofs.presence.lost_disk.Goals as goal

@@ -1,12 +1,9 @@
 -- `parity::restoring::counts` meets its contract. The loop's invariant: the counts of the disks below e are filled. The measure is the
 -- disks left. Assumes nothing.
 use mathlib.Core.Path.{sym, ◌∙◌}
-use Prim.Native.Nat.{◌-◌, ◌≤◌}
 use native.Mathlib.Omega.{arith}
-use borrow.Author.Rules.{rules}
-use borrow.Author.Tests.{not-true, not-false}
 use Rattle.design.proofs.ShelfTests.{shelf_parts}
-use Rattle.parity.proofs.ReadCounts.{copies_most, each_most, Filled, filled_none, filled_next, filled_over, filled-all}
+use Rattle.parity.proofs.ReadCounts.{copies_most, each_most, filled_none, filled_next, filled_over, filled-all}
 use Rattle.parity.proofs.restoring.counts.Goals as goal
 use Rattle.parity.proofs.restoring.counts.Goals.{then-not-is_lost, else-not-is_lost}
 

@@ -1,5 +1,4 @@
 -- `parity::restoring::index_of` meets its contract. Assumes nothing.
-use native.Mathlib.Omega.{arith}
 use borrow.Author.Tests.{lt-ltb, le-ltb, eq-eqb, ne_eqb}
 use Rattle.parity.proofs.restoring.index_of.Goals as goal
 

@@ -1,19 +1,17 @@
 -- `parity::restoring::restore_range` meets its contract. The loop's invariant: the units at the offsets passed are restored. The measure is
 -- the offsets left. Assumes nothing.
 use mathlib.Core.Path.{◌≡◌, sym, ◌∙◌}
-use Prim.Native.Nat.{◌-◌, ◌/◌, ◌%◌, ◌^◌, ◌≤◌, ◌<◌}
+use Prim.Native.Nat.{◌/◌, ◌%◌, ◌^◌, ◌<◌}
 use native.Mathlib.Nat.{mod-lt}
 use native.Mathlib.Omega.{arith}
-use borrow.Author.Rules.{rules}
 use Rattle.design.specs.declared.Shelf.{Shelf}
 use Rattle.placement.specs.Layout.{layout_in}
 use Rattle.placement.proofs.Even.{Even, even_shelf}
 use Rattle.placement.proofs.Bounds.{bounds}
 use Rattle.placement.proofs.PerEntry.{entries_at}
 use Rattle.parity.specs.Stripe.{depth}
-use Rattle.parity.specs.Calls.{between}
 use Rattle.parity.proofs.Ready.{entries_fit}
-use Rattle.parity.proofs.Restores.{Restored, restored_is}
+use Rattle.parity.proofs.Restores.{restored_is}
 use Rattle.parity.proofs.LostUnits.{stripe_for, Prepared, rank_fits, stripe-lt, index_lt, offset_placed, restored_next, restored-start}
 use Rattle.parity.proofs.restoring.restore_range.Goals as goal
 use Rattle.parity.proofs.restoring.restore_range.Goals.{After-shape_of-shape, In-loop-o, At-loop-o}

@@ -1,6 +1,4 @@
 -- `parity::rules::also` meets its contract: the arm is told the verdict. Assumes nothing.
-use borrow.Author.Rules.{rules}
-use borrow.Author.Tests.{not-true, not-false}
 use Rattle.design.specs.Refusals.{first_broken}
 use Rattle.parity.specs.Calls.{by}
 use Rattle.parity.proofs.rules.also.Goals as goal

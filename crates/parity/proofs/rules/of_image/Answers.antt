@@ -3,8 +3,6 @@ use mathlib.Core.Path.{◌≡◌, sym, ap, ◌∙◌}
 use mathlib.Core.Bool.{true}
 use mathlib.Core.List.{[]}
 use lib.Dec.{eqb}
-use borrow.Author.Rules.{rules}
-use borrow.Author.Tests.{not-true, not-false}
 use Rattle.design.specs.Shelf.{is_shelf}
 use Rattle.parity.proofs.Verdicts.{none_broken, broken_here, past, also_rule}
 use Rattle.parity.proofs.rules.of_image.Goals as goal

@@ -1,7 +1,6 @@
 -- `parity::rules::of_lose` meets its contract: rule after rule, in the order of their numbers. Assumes nothing.
 use mathlib.Core.Path.{refl, ◌∙◌}
 use mathlib.Core.List.{[], ◌∷◌}
-use borrow.Author.Rules.{rules}
 use Rattle.parity.specs.Calls.{lose_rules}
 use Rattle.parity.proofs.Verdicts.{none_broken, also_rule}
 use Rattle.parity.proofs.rules.of_lose.Goals as goal

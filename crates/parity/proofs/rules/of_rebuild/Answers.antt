@@ -1,7 +1,6 @@
 -- `parity::rules::of_rebuild` meets its contract: the rules of an image, and one more. Assumes nothing.
 use mathlib.Core.Path.{ap, ◌∙◌}
 use mathlib.Core.Bool.{not}
-use borrow.Author.Rules.{rules}
 use Rattle.parity.specs.Calls.{rebuild_rules}
 use Rattle.parity.specs.inner.Judged.{image_rules}
 use Rattle.parity.proofs.Verdicts.{also_rule}

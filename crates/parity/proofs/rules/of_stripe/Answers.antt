@@ -3,7 +3,6 @@ use mathlib.Core.Path.{◌≡◌, ap₂, ◌∙◌}
 use mathlib.Core.Bool.{true}
 use Prim.Native.Nat.{ℕ, ◌-◌, ◌*◌}
 use native.Mathlib.Omega.{arith}
-use borrow.Author.Rules.{rules}
 use Rattle.design.specs.Refusals.{first_broken}
 use Rattle.design.specs.Shelf.{is_shelf}
 use Rattle.design.proofs.ShelfTests.{shelf_parts}

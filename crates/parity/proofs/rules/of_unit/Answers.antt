@@ -3,7 +3,6 @@ use mathlib.Core.Path.{◌≡◌, sym, ap₂, ◌∙◌}
 use mathlib.Core.Bool.{true}
 use Prim.Native.Nat.{ℕ}
 use native.Mathlib.Nat.{one-mul}
-use borrow.Author.Rules.{rules}
 use Rattle.design.specs.Refusals.{first_broken}
 use Rattle.design.specs.Shelf.{is_shelf}
 use Rattle.parity.specs.Calls.{unit_rules}

@@ -1,6 +1,5 @@
 -- `parity::rules::of_whole` meets its contract: the rules of an image, and one more. Assumes nothing.
 use mathlib.Core.Path.{◌∙◌}
-use borrow.Author.Rules.{rules}
 use Rattle.parity.specs.Calls.{whole_rules}
 use Rattle.parity.specs.inner.Judged.{image_rules}
 use Rattle.parity.proofs.Verdicts.{also_rule}

@@ -4,7 +4,6 @@ use Prim.Native.Nat.{ℕ, ◌+◌, ◌*◌, ◌^◌, ◌≤◌, ◌<◌}
 use native.Mathlib.Omega.{arith}
 use lib.Arith.{digits_lt}
 use lib.ListN.{length}
-use borrow.Author.Rules.{rules}
 use Rattle.parity.specs.Units.{unit_at}
 use Rattle.parity.specs.Stripe.{unit_size, units}
 use Rattle.parity.proofs.Image.{unit_fits}

@@ -1,6 +1,5 @@
 -- `parity::sizes::image_size` meets its contract: the image has at most 2 ^ 45 bytes. Assumes nothing.
 use native.Mathlib.Omega.{arith}
-use borrow.Author.Rules.{rules}
 use Rattle.parity.proofs.Sized.{units_most, image_size_most}
 use Rattle.parity.proofs.sizes.image_size.Goals as goal
 

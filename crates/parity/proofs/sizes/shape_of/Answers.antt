@@ -1,5 +1,4 @@
 -- `parity::sizes::shape_of` meets its contract. Assumes nothing.
-use borrow.Author.Rules.{rules}
 use Rattle.parity.proofs.sizes.shape_of.Goals as goal
 
 pub returns : goal.returns

@@ -2,7 +2,6 @@
 use Prim.Native.Nat.{◌+◌, ◌*◌, ◌^◌, ◌<◌}
 use native.Mathlib.Omega.{arith}
 use lib.Arith.{digits_lt}
-use borrow.Author.Rules.{rules}
 use Rattle.parity.proofs.Sized.{units_most}
 use Rattle.parity.proofs.sizes.unit_at.Goals as goal
 use Rattle.parity.proofs.sizes.unit_at.Goals.{After-offsets}

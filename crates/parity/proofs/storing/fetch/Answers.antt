@@ -1,7 +1,6 @@
 -- `parity::storing::fetch` meets its contract: where the unit stands, and then a load or the exclusive-or of the others. Assumes nothing.
 use mathlib.Core.Path.{sym, ◌∙◌}
 use native.Mathlib.Omega.{arith}
-use borrow.Author.Rules.{rules}
 use Rattle.parity.proofs.Accepted.{call_data_lt}
 use Rattle.parity.proofs.Addressed.{unit_within, data_call, read_here, read-lost}
 use Rattle.parity.proofs.storing.fetch.Goals as goal

@@ -1,5 +1,4 @@
 -- `parity::storing::fetch_lost` meets its contract: the exclusive-or of the other units. Assumes nothing.
-use borrow.Author.Rules.{rules}
 use Rattle.parity.proofs.Addressed.{sum_asks, gathered}
 use Rattle.parity.proofs.storing.fetch_lost.Goals as goal
 

@@ -4,7 +4,6 @@ use mathlib.Core.List.{List}
 use Prim.Native.Nat.{ℕ}
 use lib.ListN.{length}
 use Rattle.parity.specs.inner.Stores.{put_unit}
-use borrow.Author.Rules.{rules}
 use Rattle.parity.proofs.storing.renew.Goals as goal
 
 pub mix_both-requires : goal.mix_both-requires

@@ -1,8 +1,6 @@
 -- `parity::storing::store` meets its contract: where the unit and the parity stand, and then one of three ways to write. Assumes nothing.
 use mathlib.Core.Path.{sym, ◌∙◌}
 use native.Mathlib.Omega.{arith}
-use borrow.Author.Tests.{not-true, not-false}
-use borrow.Author.Rules.{rules}
 use Rattle.parity.proofs.Accepted.{call_data_lt}
 use Rattle.parity.proofs.Addressed.{unit_within, parity_within, data_call, write_parity-lost, write_data_lost, write_here}
 use Rattle.parity.proofs.storing.store.Goals as goal

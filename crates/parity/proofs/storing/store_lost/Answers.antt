@@ -1,5 +1,4 @@
 -- `parity::storing::store_lost` meets its contract: the parity alone takes the unit in. Assumes nothing.
-use borrow.Author.Rules.{rules}
 use Rattle.parity.proofs.Addressed.{sum_asks, sealed}
 use Rattle.parity.proofs.storing.store_lost.Goals as goal
 

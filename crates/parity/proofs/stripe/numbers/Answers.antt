@@ -1,11 +1,8 @@
 -- `parity::stripe::numbers` meets its contract. The loop's invariant: the numbers before j are those of the units. Assumes nothing.
 use mathlib.Core.Path.{◌≡◌, refl, ◌∙◌}
-use Prim.Native.Nat.{◌-◌, ◌≤◌}
 use native.Mathlib.Omega.{arith}
-use lib.ListN.{length, length-set}
+use lib.ListN.{length-set}
 use borrow.Author.Count.{below_none}
-use Rattle.parity.specs.inner.Blocks.{Listed}
-use Rattle.parity.specs.inner.Sums.{number_by}
 use Rattle.parity.proofs.Rest.{listed_next}
 use Rattle.parity.proofs.stripe.numbers.Goals as goal
 

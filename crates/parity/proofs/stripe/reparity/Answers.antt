@@ -2,7 +2,6 @@
 use mathlib.Core.Path.{◌≡◌}
 use Prim.Native.Nat.{ℕ, ◌+◌, ◌-◌, ◌*◌, ◌/◌}
 use native.Mathlib.Omega.{arith}
-use borrow.Author.Rules.{rules}
 use Rattle.parity.specs.inner.Sums.{number_by}
 use Rattle.parity.proofs.Rest.{listed_within, listed_resealed}
 use Rattle.parity.proofs.ByBlocks.{whole_blocks}

@@ -1,7 +1,6 @@
 -- `parity::stripe::restore` meets its contract, by blocks and unit after unit. Assumes nothing.
 use mathlib.Core.Path.{◌≡◌}
 use Prim.Native.Nat.{ℕ, ◌*◌, ◌/◌}
-use borrow.Author.Rules.{rules}
 use Rattle.parity.specs.inner.Sums.{number_by}
 use Rattle.parity.proofs.Rest.{listed_within, listed_restored}
 use Rattle.parity.proofs.ByBlocks.{whole_blocks}

@@ -2,7 +2,6 @@
 use mathlib.Core.Path.{◌≡◌}
 use Prim.Native.Nat.{ℕ, ◌*◌, ◌/◌}
 use native.Mathlib.Omega.{arith}
-use borrow.Author.Rules.{rules}
 use Rattle.parity.proofs.ByBlocks.{whole_blocks}
 use Rattle.parity.proofs.stripe.seal.Goals as goal
 use Rattle.parity.proofs.stripe.seal.Goals.{Then-serve}

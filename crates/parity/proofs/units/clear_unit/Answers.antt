@@ -2,7 +2,6 @@
 use lib.ListN.{length-replicate}
 use Rattle.parity.specs.Units.{zeros}
 use Rattle.parity.proofs.Put.{part_size, part-put}
-use borrow.Author.Rules.{rules}
 use Rattle.parity.proofs.units.clear_unit.Goals as goal
 
 pub returns : goal.returns

@@ -1,17 +1,13 @@
 -- `parity::units::join` meets its contract. The loop's invariant: the bytes of unit `to` before i are the exclusive-or, and all others as
 -- they were. Assumes nothing.
 use mathlib.Core.Path.{refl, sym, ap₂, ◌∙◌}
-use mathlib.Core.List.{List}
-use Prim.Native.Nat.{ℕ, ◌-◌, ◌*◌}
-use native.Mathlib.Omega.{arith}
 use lib.Bits.{bit_xor}
-use Rattle.design.proofs.Writing.{Begun, begun_none, begun_next, begun_all}
-use Rattle.parity.specs.Units.{unit_at, xor_u}
+use Rattle.design.proofs.Writing.{begun_none, begun_next, begun_all}
+use Rattle.parity.specs.Units.{unit_at}
 use Rattle.parity.specs.inner.Stores.{put_unit}
 use Rattle.parity.proofs.Xor.{xor_u-length}
 use Rattle.parity.proofs.Put.{unit_size}
 use Rattle.parity.proofs.Writing.{byte-xor, byte_unread}
-use Rattle.parity.proofs.units.join.Invariants.{Joined}
 use Rattle.parity.proofs.units.join.Goals as goal
 
 pub loop-i-init : goal.loop-i-init

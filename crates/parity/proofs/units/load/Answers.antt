@@ -2,7 +2,6 @@
 use mathlib.Core.Path.{◌∙◌}
 use lib.ListN.{length}
 use Rattle.parity.proofs.Put.{part-unit}
-use borrow.Author.Rules.{rules}
 use Rattle.parity.proofs.units.load.Goals as goal
 
 pub returns : goal.returns

@@ -3,7 +3,6 @@ use mathlib.Core.Path.{refl}
 use lib.ListN.{length}
 use Rattle.parity.proofs.Put.{part-unit, part-put, unit_size}
 use Rattle.parity.proofs.Xor.{xor_u-length}
-use borrow.Author.Rules.{rules}
 use Rattle.parity.proofs.units.mix_in.Goals as goal
 
 pub returns : goal.returns

@@ -3,7 +3,6 @@ use mathlib.Core.Path.{ap, ◌∙◌}
 use lib.ListN.{length}
 use Rattle.parity.specs.Units.{xor_u}
 use Rattle.parity.proofs.Put.{part-unit}
-use borrow.Author.Rules.{rules}
 use Rattle.parity.proofs.units.mix_out.Goals as goal
 
 pub returns : goal.returns

@@ -1,5 +1,4 @@
 -- `parity::units::mix_within` meets its contract. Assumes nothing.
-use borrow.Author.Rules.{rules}
 use Rattle.parity.proofs.units.mix_within.Goals as goal
 
 pub join-requires : goal.join-requires

@@ -7,7 +7,6 @@ use lib.Arith.{digits_lt}
 use lib.ListN.{get_or}
 use borrow.Author.Tests.{lt-ltb, le-ltb}
 use Rattle.parity.specs.inner.Stores.{entry_of, number_in}
-use borrow.Author.Rules.{rules}
 use Rattle.parity.proofs.units.number.Goals as goal
 use Rattle.parity.proofs.units.number.Goals.{After-wide, Joined-i-k, then-i-k+then-i-parity, then-i-k+else-i-parity, else-i-k}
 

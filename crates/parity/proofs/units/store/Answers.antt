@@ -2,7 +2,6 @@
 use mathlib.Core.Path.{refl}
 use lib.ListN.{length}
 use Rattle.parity.proofs.Put.{part-put}
-use borrow.Author.Rules.{rules}
 use Rattle.parity.proofs.units.store.Goals as goal
 
 pub returns : goal.returns

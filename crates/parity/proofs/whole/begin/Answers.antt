@@ -5,7 +5,6 @@ use mathlib.Core.List.{List}
 use Prim.Native.Nat.{ℕ, ◌+◌, ◌≤◌, ◌<◌}
 use native.Mathlib.Omega.{arith}
 use lib.ListN.{length}
-use borrow.Author.Rules.{rules}
 use Rattle.parity.specs.Units.{zeros, unit_at, xor_u, xor_sum}
 use Rattle.parity.specs.inner.Stores.{put_unit}
 use Rattle.parity.specs.inner.Sums.{number_by, sum_with}

@@ -1,12 +1,9 @@
 -- `parity::whole::gather` meets its contract. The loop's invariant: the lent unit is the exclusive-or of the units before unit j but
 -- unit i. Assumes nothing.
 use mathlib.Core.Path.{sym, ap, ◌∙◌}
-use Prim.Native.Nat.{◌-◌, ◌≤◌}
 use native.Mathlib.Omega.{arith}
-use borrow.Author.Rules.{rules}
 use Rattle.parity.specs.Units.{zeros}
-use Rattle.parity.specs.inner.Sums.{number_by}
-use Rattle.parity.proofs.Rest.{Gathered, gathered_none, gathered_next, gathered_over, gathered_all}
+use Rattle.parity.proofs.Rest.{gathered_none, gathered_next, gathered_over, gathered_all}
 use Rattle.parity.proofs.StripeSums.{place_fits}
 use Rattle.parity.proofs.whole.gather.Goals as goal
 use Rattle.parity.proofs.whole.gather.Goals.{then-j-i, else-j-i}

@@ -1,11 +1,9 @@
 -- `parity::whole::reparity` meets its contract. The loop's invariant: the parity is the exclusive-or of the data before data i, with the
 -- lent unit for data j. Assumes nothing.
 use mathlib.Core.Path.{◌∙◌}
-use Prim.Native.Nat.{◌-◌, ◌≤◌}
 use native.Mathlib.Omega.{arith}
 use lib.ListN.{length-replicate}
-use borrow.Author.Rules.{rules}
-use Rattle.parity.proofs.StripeSums.{StripeSum, place_fits, stripe_none, stripe_mixes, stripe_next, stripe-lent, stripe-all}
+use Rattle.parity.proofs.StripeSums.{place_fits, stripe_none, stripe_mixes, stripe_next, stripe-lent, stripe-all}
 use Rattle.parity.proofs.whole.reparity.Goals as goal
 use Rattle.parity.proofs.whole.reparity.Goals.{then-i-j, else-i-j}
 

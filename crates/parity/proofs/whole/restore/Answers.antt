@@ -1,12 +1,9 @@
 -- `parity::whole::restore` meets its contract. The loop's invariant: unit i of the stripe is the exclusive-or of the units before unit j
 -- but itself. Assumes nothing.
 use mathlib.Core.Path.{refl, ◌∙◌}
-use Prim.Native.Nat.{◌-◌, ◌≤◌}
 use native.Mathlib.Omega.{arith}
 use lib.ListN.{length-replicate}
-use borrow.Author.Rules.{rules}
-use Rattle.parity.specs.Units.{zeros}
-use Rattle.parity.proofs.StripeSums.{StripeSum, stripe_begun, stripe_mixes, stripe_next, stripe_over, stripe-all, sum_size}
+use Rattle.parity.proofs.StripeSums.{stripe_begun, stripe_mixes, stripe_next, stripe_over, stripe-all, sum_size}
 use Rattle.parity.proofs.whole.restore.Goals as goal
 use Rattle.parity.proofs.whole.restore.Goals.{then-j-i, else-j-i}
 

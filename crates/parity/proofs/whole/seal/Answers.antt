@@ -1,13 +1,13 @@
 -- `parity::whole::seal` meets its contract. The loop's invariant: unit n is the exclusive-or of the first i units of the buffer.
 -- Assumes nothing.
 use mathlib.Core.Path.{◌≡◌, refl, ◌∙◌}
-use Prim.Native.Nat.{ℕ, ◌+◌, ◌-◌, ◌*◌, ◌≤◌, ◌<◌}
+use Prim.Native.Nat.{ℕ, ◌+◌, ◌*◌, ◌≤◌, ◌<◌}
 use native.Mathlib.Nat.{mul-le-mul_right}
 use native.Mathlib.Omega.{arith}
 use lib.ListN.{length, length-replicate}
 use Rattle.parity.specs.Units.{unit_at}
 use Rattle.parity.proofs.Put.{part-unit, part_size}
-use Rattle.parity.proofs.Summing.{Summed, summed_none, summed_next, summed_all}
+use Rattle.parity.proofs.Summing.{summed_none, summed_next, summed_all}
 use Rattle.parity.proofs.whole.seal.Goals as goal
 use Rattle.parity.proofs.whole.seal.Goals.{Start}
 

@@ -1,7 +1,6 @@
 -- `placement::seek::nth` meets its contract. The loop's invariant: m is what is left and the count of the entries passed. The measure is
 -- what is left of n. Assumes nothing.
 use mathlib.Core.Path.{◌≡◌, sym, ap, ◌∙◌}
-use Prim.Native.Nat.{◌+◌, ◌-◌, ◌≤◌}
 use native.Mathlib.Omega.{arith}
 use borrow.Author.Tests.{eq-eqb}
 use Rattle.design.specs.Count.{count, nth}

@@ -1,7 +1,6 @@
 -- `placement::seek::times` meets its contract. The loop's invariant: `times` is the count of the entries passed. The measure is what is
 -- left of n. Assumes nothing.
 use mathlib.Core.Path.{◌≡◌, refl, ap, ◌∙◌}
-use Prim.Native.Nat.{◌-◌, ◌≤◌}
 use native.Mathlib.Omega.{arith}
 use Rattle.design.specs.Count.{count}
 use Rattle.design.proofs.Counting.{count-le}

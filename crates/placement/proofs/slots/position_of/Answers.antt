@@ -1,6 +1,5 @@
 -- `placement::slots::position_of` meets its contract: data before the parity, or after it. Assumes nothing.
 use mathlib.Core.Path.{sym}
-use borrow.Author.Rules.{rules}
 use Rattle.placement.proofs.Stepping.{position_left, position_right}
 use Rattle.placement.proofs.slots.position_of.Goals as goal
 

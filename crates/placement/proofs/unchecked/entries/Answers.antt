@@ -1,14 +1,13 @@
 -- `placement::unchecked::entries` meets its contract: the entries found are those passed. Assumes nothing.
 use mathlib.Core.Path.{◌≡◌, subst}
-use mathlib.Core.Logic.{⊎_elim}
-use Prim.Native.Nat.{ℕ, ◌-◌, ◌≤◌, ◌<◌}
+use Prim.Native.Nat.{ℕ, ◌<◌}
 use native.Mathlib.Omega.{arith}
 use borrow.Author.Tests.{eq-eqb, ne_eqb}
 use Rattle.design.specs.Count.{count, nth}
 use Rattle.design.proofs.Reading.{Filled}
 use Rattle.placement.specs.Entries.{is_disk, per_entry, entries_of}
 use Rattle.placement.proofs.PerEntry.{filled_per_entry}
-use Rattle.placement.proofs.Listing.{Listing, listing_none, listing_same, listing_more, listing_le}
+use Rattle.placement.proofs.Listing.{listing_none, listing_same, listing_more, listing_le}
 use Rattle.placement.proofs.unchecked.entries.Goals as goal
 use Rattle.placement.proofs.unchecked.entries.Goals.{Then-table-i, then-table-i, else-table-i}
 

@@ -1,6 +1,5 @@
 -- `placement::unchecked::offsets` meets its contract: the units of a disk are below 2 ^ 27. Assumes nothing.
 use native.Mathlib.Omega.{arith}
-use borrow.Author.Rules.{rules}
 use Rattle.placement.proofs.Bounds.{bounds}
 use Rattle.placement.proofs.unchecked.offsets.Goals as goal
 

@@ -1,14 +1,14 @@
 -- `placement::unchecked::ranks` meets its contract. The loop's invariant: the entries passed are counted and ranked. The measure is what is
 -- left of n. Assumes nothing.
 use mathlib.Core.Path.{◌≡◌, refl, subst}
-use Prim.Native.Nat.{ℕ, ◌-◌, ◌≤◌, ◌<◌}
+use Prim.Native.Nat.{ℕ, ◌<◌}
 use native.Mathlib.Omega.{arith}
 use lib.ListN.{length, get_or, length-set}
 use Rattle.design.proofs.Counting.{count-le}
 use Rattle.design.proofs.Reading.{Filled, filled_none, filled_more}
 use Rattle.placement.specs.Entries.{is_disk, rank_in, ranks_of}
 use Rattle.placement.proofs.PerEntry.{filled_per_entry}
-use Rattle.placement.proofs.Ranks.{Counted, counted_none, counted_next}
+use Rattle.placement.proofs.Ranks.{counted_none, counted_next}
 use Rattle.placement.proofs.unchecked.ranks.Goals as goal
 use Rattle.placement.proofs.unchecked.ranks.Goals.{In-loop-i}
 

@@ -3,7 +3,6 @@ use mathlib.Core.Path.{refl}
 use Prim.Native.Nat.{◌*◌, ◌/◌, ◌%◌, ◌<◌}
 use native.Mathlib.Nat.{mul-pos, mod-lt, div-lt_iff_lt-mul}
 use native.Mathlib.Omega.{arith}
-use borrow.Author.Rules.{rules}
 use Rattle.placement.specs.Layout.{split_of}
 use Rattle.placement.proofs.unchecked.split_of.Goals as goal
 use Rattle.placement.proofs.unchecked.split_of.Goals.{Start}

@@ -1,6 +1,5 @@
 -- `placement::unchecked::stripes` meets its contract: the stripes are below 2 ^ 27. Assumes nothing.
 use native.Mathlib.Omega.{arith}
-use borrow.Author.Rules.{rules}
 use Rattle.placement.proofs.Bounds.{bounds}
 use Rattle.placement.proofs.unchecked.stripes.Goals as goal
 
