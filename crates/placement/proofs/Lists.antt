@@ -20,6 +20,11 @@ filled L a zero list = list
 filled L a (suc i) [] = []
 filled L a (suc i) (x ∷ list) = spot_of L a ∷ filled L (suc a) i list
 
+pub filled-length : (L : Layout) (a i : ℕ) (list : List Spot) → length (filled L a i list) ≡ length list
+filled-length L a zero list = refl
+filled-length L a (suc i) [] = refl
+filled-length L a (suc i) (x ∷ list) = ap suc (filled-length L (suc a) i list)
+
 -- one turn more
 pub filled_more : (L : Layout) (a i : ℕ) (list : List Spot) → i < length list → set (filled L a i list) i (spot_of L (a + i)) ≡ filled L a (suc i) list
 filled_more L a i [] h = absurd (not-suc-le-zero h)

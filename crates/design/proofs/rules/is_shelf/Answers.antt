@@ -24,7 +24,7 @@ table_is c e = sym c.is_table.ensures ∙ e
 limits_kept : (c : Else-not-within_limits) → let h = shelf (goal.at.Else-not-within_limits c).After-within_limits in within_limits h.v h.k h.b h.T h.u ≡ true
 limits_kept c = limits_are (goal.at.Else-not-within_limits c).After-within_limits (c.if-not-within_limits.false)
 
--- ---- the needs
+-- ---- the goals
 pub returns-then-not-within_limits : goal.returns-then-not-within_limits
 returns-then-not-within_limits c = rw (shelf_parted (shelf (goal.at.returns-then-not-within_limits c).After-within_limits), limits_are (goal.at.returns-then-not-within_limits c).After-within_limits (c.if-not-within_limits.true))
 

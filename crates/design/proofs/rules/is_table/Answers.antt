@@ -57,7 +57,7 @@ pairs_is c =
     let t = c.tally-counts in
     c.pairs_even.ensures ∙ even_pairs a.v a.k a.b a.table.now t.result c.requires.1 t.ensures a.lambda
 
--- ---- the needs
+-- ---- the goals
 pub returns-then-not-zero_past : goal.returns-then-not-zero_past
 returns-then-not-zero_past c = refused (goal.at.returns-then-not-zero_past c).Start 0 c.zero_past.ensures c.if-not-zero_past.true
 

@@ -59,7 +59,7 @@ written : (c : After-line_end)
     → Put c.args.out.now c.args.at (upto-data (goal.at.After-line_end c).Start ++ line_end ∷ []) c.line_end.result c.line_end.new.out
 written c = put_then (line_fits (goal.at.After-line_end c).Start) (wrote_data (goal.at.After-line_end c).After-data-end) c.line_end.ensures
 
--- ---- the needs
+-- ---- the goals
 pub split_of-split-requires : goal.split_of-split-requires
 split_of-split-requires c = let R = c.requires.reckoned in (omega (arith, R.k_least), R.b_least, omega (arith, R.places))
 

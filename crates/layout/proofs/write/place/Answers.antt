@@ -30,7 +30,7 @@ written c =
     c.wider.ensures.0
     c.number.ensures
 
--- ---- the needs
+-- ---- the goals
 pub spaced_number-middle-requires : goal.spaced_number-middle-requires
 spaced_number-middle-requires c =
     disk_fits c.args.table.now c.args.ranks.now c.args.base c.args.entry c.requires.fits c.wide.ensures.0

@@ -23,7 +23,7 @@ written : (c : After-line_end) → Put c.args.out.now 0 (refused_line c.args.num
 unfolding refused_line
 written c = put_then (all_fits (goal.at.After-line_end c).Start) (wrote_number (goal.at.After-line_end c).After-spaced_number-at) c.line_end.ensures
 
--- ---- the needs
+-- ---- the goals
 pub spaced_number-at-requires : goal.spaced_number-at-requires
 spaced_number-at-requires c = fits_rest (number_fits (goal.at.spaced_number-at-requires c).Start) c.refused_word.ensures
 

@@ -31,7 +31,7 @@ unfolding place_in
 offset c =
     omega (arith, counted c, offset_fits c.args.shelf c.requires.0 c.args.at c.requires.1 c.args.position c.requires.2)
 
--- ---- the needs
+-- ---- the goals
 pub returns : goal.returns
 unfolding place_in
 returns c = rw (counted (goal.at.returns c).After-times-before)

@@ -37,7 +37,7 @@ parity_is c = split-parity (L (goal.at.After-split_of-at c).Start) (stripe (goal
 position_is : (c : After-position_of-position) → c.position_of-position.result ≡ position_of (parity_of (L (goal.at.After-position_of-position c).Start) (stripe (goal.at.After-position_of-position c).Start)) (j (goal.at.After-position_of-position c).Start)
 position_is c = c.position_of-position.ensures ∙ ap (λ (p : ℕ). position_of p (j (goal.at.After-position_of-position c).Start)) (parity_is (goal.at.After-position_of-position c).After-split_of-at)
 
--- ---- the needs
+-- ---- the goals
 pub overflow_sub-stripe : goal.overflow_sub-stripe
 overflow_sub-stripe c = omega (arith, (E c).k_least)
 

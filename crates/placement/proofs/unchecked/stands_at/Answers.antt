@@ -62,7 +62,7 @@ address-lt c =
     let j-lt : c.index_of-j.result < c.args.shelf.k - 1 = omega (arith, j_is c, (data_at (L (goal.at.After-index_of-j c).Start) (E (goal.at.After-index_of-j c).Start) (stripe (goal.at.After-index_of-j c).After-nth-entry) (position (goal.at.After-index_of-j c).After-nth-entry) few (other c)).below) in
     digits_lt (stripe-lt (goal.at.After-index_of-j c).After-nth-entry) j-lt
 
--- ---- the needs
+-- ---- the goals
 pub overflow_mul-b : goal.overflow_mul-b
 overflow_mul-b c = omega (arith, (shelf_parts c.args.shelf c.requires.0).limits.places)
 
