@@ -9,14 +9,14 @@ use native.Mathlib.Omega.{arith}
 use lib.Dec.{leb, ltb, eqb}
 use lib.ListN.{length}
 use borrow.Author.Tests.{lt-ltb, ltb-true, ltb-false, le-leb, leb-true, eq-eqb, eqb-true}
+use Rattle.std.specs.Prelude.{Ok}
 use Rattle.fields.specs.Field.{bit_at, field}
 use Rattle.fields.proofs.Laws.{field_zero}
 use Rattle.design.specs.declared.Shelf.{Shelf}
-use Rattle.design.specs.declared.Verdict.TheVariants.{Accepted}
 use Rattle.design.specs.Count.{every}
-use Rattle.design.specs.Refusals.{number, first_broken}
+use Rattle.design.specs.Refusals.{number, first_broken, verdict}
 use Rattle.design.specs.Tuples.{Design, before, shared, Balanced, disks_below, none_twice, disks_even, pairs_even}
-use Rattle.design.specs.Sheet.{edition_of, v_of, k_of, b_of, t_of, u_of, design_of, sheet_length, within_limits, filling_zero, sheet_rules, opened, shelf_of, WellFormed}
+use Rattle.design.specs.Sheet.{edition_of, v_of, k_of, b_of, t_of, u_of, design_of, sheet_length, within_limits, filling_zero, sheet_rules, opened, shelf_of, WellFormed, opened_shelf}
 use Rattle.design.proofs.Counting.{decided, every-at, every_of}
 use Rattle.design.proofs.Tests.{limits, disks_even_lem, pairs_even_lem}
 use Rattle.design.proofs.Twice.{twice}
@@ -84,7 +84,7 @@ record Kept (s : List ℕ) : Type 0 where
   often : disks_even (design_of s) (r_of s) ≡ true
   paired : pairs_even (design_of s) (lambda_of s) ≡ true
 
-accepted_kept : (s : List ℕ) → (opened s).verdict ≡ Accepted → Kept s
+accepted_kept : (s : List ℕ) → verdict (opened s) ≡ Ok tt → Kept s
 unfolding kept_of sheet_rules number
 accepted_kept s e =
     let kept = (accepts_exactly (sheet_rules s) (sheet_rise s)).0 (sym (opened-verdict s) ∙ e) in
@@ -100,7 +100,7 @@ accepted_kept s e =
       paired = kept 9;
     }
 
-kept_accepted : (s : List ℕ) → Kept s → (opened s).verdict ≡ Accepted
+kept_accepted : (s : List ℕ) → Kept s → verdict (opened s) ≡ Ok tt
 unfolding first_broken sheet_rules
 kept_accepted s k =
     opened-verdict s
@@ -145,7 +145,7 @@ well_formed_kept s r lambda w y =
       paired = (pairs_alike D (lambda_of s)).1 (λ d e hd he ne. y.paired d e hd he ne ∙ sym (y.paired 1 0 first zeroth apart));
     }
 
-pub accepted_exactly : (s : List ℕ) → ((opened s).verdict ≡ Accepted) ↔ (WellFormed s × ((r : ℕ) × (lambda : ℕ) × Balanced (design_of s) r lambda))
+pub accepted_exactly : (s : List ℕ) → (verdict (opened s) ≡ Ok tt) ↔ (WellFormed s × ((r : ℕ) × (lambda : ℕ) × Balanced (design_of s) r lambda))
 accepted_exactly s = (
   λ e. let k = accepted_kept s e in (kept_well_formed s k, (r_of s, lambda_of s, kept_balanced s k)),
   λ h. kept_accepted s (well_formed_kept s h.1.0 h.1.1 h.0 h.1.2),
@@ -153,7 +153,7 @@ accepted_exactly s = (
 
 -- ---- the shelf of an accepted sheet
 
-module _ (s : List ℕ) (e : (opened s).verdict ≡ Accepted) where
+module _ (s : List ℕ) (e : verdict (opened s) ≡ Ok tt) where
   pub accepted_well_formed : WellFormed s
   accepted_well_formed = ((accepted_exactly s).0 e).0
 
@@ -161,13 +161,13 @@ module _ (s : List ℕ) (e : (opened s).verdict ≡ Accepted) where
   unfolding shelf_of
   balanced_as_counted = kept_balanced s (accepted_kept s e)
 
-  pub sheet_places : (opened s).shelf.b * (opened s).shelf.k ≡ (opened s).shelf.v * (opened s).shelf.r
+  pub sheet_places : (opened_shelf s).b * (opened_shelf s).k ≡ (opened_shelf s).v * (opened_shelf s).r
   unfolding shelf_of
   sheet_places =
       subst (λ (h : Shelf). h.b * h.k ≡ h.v * h.r) (sym (accepted_shelf s e))
       (places (design_of s) accepted_well_formed.below (shelf_of s).r (shelf_of s).lambda balanced_as_counted)
 
-  pub sheet_spread : (opened s).shelf.lambda * ((opened s).shelf.v - 1) ≡ (opened s).shelf.r * ((opened s).shelf.k - 1)
+  pub sheet_spread : (opened_shelf s).lambda * ((opened_shelf s).v - 1) ≡ (opened_shelf s).r * ((opened_shelf s).k - 1)
   unfolding shelf_of
   sheet_spread =
       let l = accepted_well_formed.limits in

@@ -1,16 +1,21 @@
 -- Laws of comparing many lanes with a number at once, word by word. Assumes nothing.
 use mathlib.Core.Path.{◌≡◌, sym, ap, ap₂, ◌∙◌}
-use mathlib.Core.Logic.{◌⊎◌, inl, inr, ◌≢◌}
-use mathlib.Core.Bool.{true, false}
-use Prim.Native.Nat.{ℕ, zero, suc, ◌+◌, ◌-◌, ◌*◌, ◌/◌, ◌%◌, ◌^◌, ◌≤◌, ◌<◌}
-use native.Mathlib.Nat.{mod-lt, one-mul}
+use mathlib.Core.Logic.{◌⊎◌, inl, inr}
+use mathlib.Core.Bool.{Bool, true, false}
+use Prim.Native.Nat.{ℕ, zero, suc, ◌-◌, ◌*◌, ◌/◌, ◌%◌, ◌^◌, ◌≤◌, ◌<◌}
+use native.Mathlib.Nat.{mod-lt, one-mul, zero-add}
 use native.Mathlib.Omega.{arith}
 use lib.Dec.{eqb, ltb}
-use lib.Pow.{pow_pos, pow-lt}
+use lib.Pow.{pow_pos}
 use lib.Bits.{bit_and, and_mask}
-use borrow.Author.Tests.{eqb-true, eqb-false, eq-eqb, ltb-true, ltb-false}
+use lib.ListN.{length, get_or}
+use mathlib.Core.List.{List}
+use Rattle.std.specs.Bool.{MatchBool}
+use Rattle.std.specs.List.{enumerate_from, AllWithin, HoldsAt}
+use Rattle.std.proofs.lemmas.List.FromFn.{length-enumerate_from, get_or-enumerate_from}
+use borrow.Author.Tests.{eqb-true, eq-eqb, ltb-true, ltb-false}
 use Rattle.design.specs.Count.{every}
-use Rattle.design.specs.inner.Planes.{bit, lane}
+use Rattle.design.specs.inner.Planes.{bit, lane, plane_of, counted}
 use Rattle.design.proofs.Counting.{decided, fails, alike, every-at, every_of}
 use Rattle.design.proofs.Bits.{bit_of, bit_code, bit-lt, bit_zero, bit_low, bit_ones, bits_same}
 use Rattle.design.proofs.Lanes.{lane-lt, bit-lane, lane_is}
@@ -31,9 +36,6 @@ bit_spread (suc (suc b)) d e h l = absurd (omega arith)
 module _ (value d i : ℕ) (hd : d < 64) where
   wanted_code : bit_and (value / 2 ^ i) 1 * ((1 * 2 ^ d) % 2 ^ 64 - 1) ≡ bit value i * (2 ^ d - 1)
   wanted_code = ap₂ (λ (b y : ℕ). b * (y - 1)) (bit_code value i) (bit_of d hd)
-
-  pub wanted_lt : bit_and (value / 2 ^ i) 1 * ((1 * 2 ^ d) % 2 ^ 64 - 1) < 2 ^ 64
-  wanted_lt = omega (arith, wanted_code, spread_lt (bit value i) d (bit-lt value i), pow-lt hd)
 
   module _ (x : ℕ) where
     word_code : bit_and x ((1 * 2 ^ d) % 2 ^ 64 - 1) ≡ x % 2 ^ d
@@ -56,16 +58,6 @@ module _ (value d i : ℕ) (hd : d < 64) where
 abbrev pub AgreeTo : (ℕ → ℕ) → ℕ → ℕ → ℕ → Type 0
 AgreeTo f d value i = (j : ℕ) → j < i → (e : ℕ) → e < d → bit (f j) e ≡ bit value j
 
-pub agree_none : (f : ℕ → ℕ) (d value : ℕ) → AgreeTo f d value 0
-agree_none f d value j h = absurd (omega arith)
-
-pub agree_next : (f : ℕ → ℕ) (d value i : ℕ) → AgreeTo f d value i → ((e : ℕ) → e < d → bit (f i) e ≡ bit value i) → AgreeTo f d value (i + 1)
-agree_next f d value i a b j h e l = go (decided (eqb j i))
-  where
-    go : (eqb j i ≡ true) ⊎ (eqb j i ≡ false) → bit (f j) e ≡ bit value j
-    go (inl p) = rw (eqb-true j i p) (b e l)
-    go (inr p) = let ne : j ≢ i = eqb-false j i p in a j (omega arith) e l
-
 pub all_true : (f : ℕ → ℕ) (d value n : ℕ) → value < 2 ^ n → AgreeTo f d value n → every d (λ e. eqb (lane f n e) value) ≡ true
 all_true f d value n h a = every_of d (λ e. eqb (lane f n e) value) (λ e l. eq-eqb (lane f n e) value (lane_is f n e value h (λ i m. a i m e l)))
 
@@ -74,6 +66,29 @@ pub all_false : (f : ℕ → ℕ) (d value n i : ℕ) → i < n → (((e : ℕ) 
 all_false f d value n i h odd =
     fails (every d (λ e. eqb (lane f n e) value))
     (λ t. odd (λ e l. sym (bit-lane f n e i h) ∙ ap (λ (x : ℕ). bit x i) (eqb-true (lane f n e) value (every-at d (λ e'. eqb (lane f n e') value) t e l))))
+
+-- word i of the row has them in the lanes below d, as the code compares them
+abbrev pub Agrees : ℕ → ℕ → ℕ × ℕ → Type 0
+Agrees d value (i, x) = bit_and x ((1 * 2 ^ d) % 2 ^ 64 - 1) ≡ bit_and (value / 2 ^ i) 1 * ((1 * 2 ^ d) % 2 ^ 64 - 1)
+
+pub row_agrees : (row : List ℕ) (d value : ℕ) (r : Bool) → d < 64 → value < 2 ^ 11 → length row ≡ 11
+    → (let l = enumerate_from 0 row in MatchBool r (AllWithin (Agrees d value) l 0 (length l)) ((k : ℕ) × (k < length l) × HoldsAt (λ p. Agrees d value p → ⊥) l k))
+    → r ≡ every d (λ e. eqb (counted row e) value)
+row_agrees row d value r hd hv long h = go r h
+  where
+    pair : ℕ → ℕ → ℕ × ℕ
+    pair n x = (n, x)
+
+    at : (i : ℕ) → i < 11 → get_or (enumerate_from 0 row) i (0, 0) ≡ (i, plane_of row i)
+    at i l = get_or-enumerate_from 0 row i (0, 0) (omega arith) ∙ ap (λ (n : ℕ). pair n (plane_of row i)) (zero-add i)
+
+    go : (r : Bool) → (let l = enumerate_from 0 row in MatchBool r (AllWithin (Agrees d value) l 0 (length l)) ((k : ℕ) × (k < length l) × HoldsAt (λ p. Agrees d value p → ⊥) l k))
+        → r ≡ every d (λ e. eqb (counted row e) value)
+    go true h =
+        sym (all_true (plane_of row) d value 11 hv (λ j l. word_agrees value d j hd (plane_of row j) (rw (at j l) at (h j (0, 0) (omega arith) (omega (arith, length-enumerate_from 0 row))))))
+    go false (k, l, h) =
+        let m : k < 11 = omega (arith, length-enumerate_from 0 row) in
+        sym (all_false (plane_of row) d value 11 k m (λ e. (rw (at k m) at (h (0, 0))) (agrees_word value d k hd (plane_of row k) e)))
 
 -- ---- all rows
 

@@ -3,11 +3,17 @@ use mathlib.Core.Path.{◌≡◌, refl, sym, ap, ap₂, ◌∙◌}
 use mathlib.Core.Logic.{◌⊎◌, inl, inr, ◌≢◌}
 use mathlib.Core.Bool.{Bool, true, false, cond, ◌&&◌, true≢false}
 use Prim.Native.Nat.{ℕ, zero, suc, ◌+◌, ◌≤◌, ◌<◌}
-use native.Mathlib.Nat.{le_of_suc-le-suc, eq-or-lt_of_le, le_antisymm, add-zero, add-suc}
+use native.Mathlib.Nat.{zero-add, le_of_suc-le-suc, eq-or-lt_of_le, add-zero, add-suc}
 use native.Mathlib.Numerals.{add-one}
 use native.Mathlib.Omega.{arith}
 use lib.Dec.{ltb, eqb}
 use lib.ListN.{length, get_or}
+use mathlib.Core.List.{List}
+use Rattle.std.specs.Bool.{MatchBool}
+use Rattle.std.specs.List.{list_all, range_with_len, AllWithin, HoldsAt}
+use Rattle.std.proofs.lemmas.List.FromFn.{length-range_with_len, get_or-range_with_len}
+use Rattle.std.proofs.lemmas.List.{get_or_default}
+use Rattle.std.proofs.lemmas.List.Sums.{AllPass-from_list_all, list_all-from_AllPass}
 use borrow.Author.Tests.{ltb-true, ltb-false, eqb-true, eqb-false}
 use Rattle.design.specs.Count.{count, every, nth, list_from}
 
@@ -61,6 +67,31 @@ unfolding every
 every_ext zero f g h = refl
 every_ext (suc n) f g h = ap₂ ◌&&◌ (every_ext n f g (λ i l. h i (omega arith))) (h n (omega arith))
 
+-- what tests one number after another, and stops at the first that fails
+pub every_tested : (n : ℕ) (f : ℕ → Bool) (r : Bool) → MatchBool r ((i : ℕ) → i < n → f i ≡ true) ((i : ℕ) × (i < n) × (f i ≡ false)) → r ≡ every n f
+every_tested n f true h = sym (every_of n f h)
+every_tested n f false h = sym (every_not n f h.0 h.1 h.2)
+
+-- the same where a chain over a range says it
+pub every_ranged : (n : ℕ) (f : ℕ → Bool) (r : Bool) → (let l = range_with_len 0 n in
+    MatchBool r (AllWithin (λ i. f i ≡ true) l 0 (length l)) ((k : ℕ) × (k < length l) × HoldsAt (λ i. f i ≡ false) l k)) → r ≡ every n f
+every_ranged n f r h = every_tested n f r (go r h)
+  where
+    go : (r : Bool) → (let l = range_with_len 0 n in
+        MatchBool r (AllWithin (λ i. f i ≡ true) l 0 (length l)) ((k : ℕ) × (k < length l) × HoldsAt (λ i. f i ≡ false) l k))
+        → MatchBool r ((i : ℕ) → i < n → f i ≡ true) ((i : ℕ) × (i < n) × (f i ≡ false))
+    go true h = λ i l. ap f (sym (get_or-range_with_len 0 n i 0 l ∙ zero-add i)) ∙ h i 0 (omega arith) (omega (arith, length-range_with_len 0 n))
+    go false (k, l, h) =
+        let m : k < n = omega (arith, length-range_with_len 0 n) in
+        (k, m, ap f (sym (get_or-range_with_len 0 n k 0 m ∙ zero-add k)) ∙ h 0)
+
+-- each entry of a list passes
+pub every_listed : (p : ℕ → Bool) (xs : List ℕ) → list_all p xs ≡ every (length xs) (λ i. p (get_or xs i 0))
+every_listed p xs =
+    alike (list_all p xs) (every (length xs) (λ i. p (get_or xs i 0)))
+    (λ e. every_of (length xs) _ (λ i l. AllPass-from_list_all p xs e i 0 l))
+    (λ e. list_all-from_AllPass p xs (λ i d l. rw (get_or_default xs i d 0 l) (every-at (length xs) (λ i. p (get_or xs i 0)) e i l)))
+
 -- a loop that tests one number after another
 
 pub every_none : (f : ℕ → Bool) → every 0 f ≡ true
@@ -68,9 +99,6 @@ every_none f = every_of 0 f (λ i l. absurd (omega arith))
 
 pub every_next : (n : ℕ) (f : ℕ → Bool) → every n f ≡ true → f n ≡ true → every (n + 1) f ≡ true
 every_next n f e l = rw add-one (every_more n f e l)
-
-pub every_end : (i n : ℕ) (f : ℕ → Bool) → i ≤ n → n ≤ i → every i f ≡ true → true ≡ every n f
-every_end i n f h l e = sym e ∙ ap (λ (m : ℕ). every m f) (le_antisymm h l)
 
 -- ---- count
 

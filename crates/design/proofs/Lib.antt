@@ -2,6 +2,8 @@ pub mod Counting
 pub mod Sums
 pub mod Tests
 pub mod Twice
+pub mod Chunks
+pub mod Parts
 pub mod Losses
 pub mod ShelfTests
 pub mod Bits
@@ -10,6 +12,7 @@ pub mod Rows
 pub mod Masks
 pub mod Compare
 pub mod Tallies
+pub mod Used
 pub mod Lowest
 pub mod Refused
 pub mod Design

@@ -5,8 +5,7 @@ use mathlib.Core.Bool.{true, false, true≢false}
 use Prim.Native.Nat.{ℕ, ◌<◌}
 use lib.Dec.{ltb, eqb}
 use borrow.Author.Tests.{ltb-true, eq-eqb, eqb-true}
-use Rattle.design.specs.declared.Lost.{Lost}
-use Rattle.design.specs.declared.Lost.TheVariants.{Nothing, Disk}
+use Rattle.std.specs.Prelude.{Some, None, Option}
 use Rattle.design.specs.declared.Loss.{Loss}
 use Rattle.design.specs.Loss.{no_loss, disk_loss, is_whole, lost_in, loss_below}
 
@@ -34,9 +33,9 @@ pub whole_exactly : (loss : Loss) → (is_whole loss ≡ true) ↔ (loss ≡ no_
 unfolding is_whole no_loss
 whole_exactly loss = (by loss.lost refl, λ e. ap is_whole e ∙ none_whole)
   where
-    by : (x : Lost) → loss.lost ≡ x → is_whole loss ≡ true → loss ≡ no_loss
-    by Nothing p e = ap (λ (x : Lost). record { lost = x }) p
-    by (Disk d) p e = absurd (true≢false (sym e ∙ rw (p, is_whole)))
+    by : (x : Option ℕ) → loss.lost ≡ x → is_whole loss ≡ true → loss ≡ no_loss
+    by None p e = ap (λ (x : Option ℕ). record { lost = x }) p
+    by (Some d) p e = absurd (true≢false (sym e ∙ rw (p, is_whole)))
 
 pub whole_unlost : (loss : Loss) → is_whole loss ≡ true → (d : ℕ) → lost_in loss d ≡ false
 unfolding lost_in no_loss
@@ -47,25 +46,25 @@ pub some_lost : (loss : Loss) → is_whole loss ≡ false → (d : ℕ) × (lost
 unfolding is_whole lost_in
 some_lost loss = by loss.lost refl
   where
-    by : (x : Lost) → loss.lost ≡ x → is_whole loss ≡ false → (d : ℕ) × (lost_in loss d ≡ true)
-    by Nothing p e = absurd (true≢false (rw (p, is_whole) at e))
-    by (Disk d) p e = (d, rw (p, lost_in) (eq-eqb d d refl))
+    by : (x : Option ℕ) → loss.lost ≡ x → is_whole loss ≡ false → (d : ℕ) × (lost_in loss d ≡ true)
+    by None p e = absurd (true≢false (rw (p, is_whole) at e))
+    by (Some d) p e = (d, rw (p, lost_in) (eq-eqb d d refl))
 
 pub lost_unwhole : (loss : Loss) (d : ℕ) → lost_in loss d ≡ true → is_whole loss ≡ false
 unfolding is_whole lost_in
 lost_unwhole loss d = by loss.lost refl
   where
-    by : (x : Lost) → loss.lost ≡ x → lost_in loss d ≡ true → is_whole loss ≡ false
-    by Nothing p e = absurd (true≢false (sym e ∙ rw (p, lost_in)))
-    by (Disk x) p e = rw (p, is_whole)
+    by : (x : Option ℕ) → loss.lost ≡ x → lost_in loss d ≡ true → is_whole loss ≡ false
+    by None p e = absurd (true≢false (sym e ∙ rw (p, lost_in)))
+    by (Some x) p e = rw (p, is_whole)
 
 pub lost_alone : (loss : Loss) (d : ℕ) → lost_in loss d ≡ true → (e : ℕ) → lost_in loss e ≡ eqb e d
 unfolding lost_in
 lost_alone loss d = by loss.lost refl
   where
-    by : (x : Lost) → loss.lost ≡ x → lost_in loss d ≡ true → (e : ℕ) → lost_in loss e ≡ eqb e d
-    by Nothing p t e = absurd (true≢false (sym t ∙ rw (p, lost_in)))
-    by (Disk x) p t e =
+    by : (x : Option ℕ) → loss.lost ≡ x → lost_in loss d ≡ true → (e : ℕ) → lost_in loss e ≡ eqb e d
+    by None p t e = absurd (true≢false (sym t ∙ rw (p, lost_in)))
+    by (Some x) p t e =
         let is : d ≡ x = eqb-true d x (rw (p, lost_in) at t) in
         rw (p, lost_in, is)
 
@@ -73,7 +72,7 @@ pub lost-lt : (loss : Loss) (v d : ℕ) → loss_below loss v ≡ true → lost_
 unfolding loss_below lost_in
 lost-lt loss v d = by loss.lost refl
   where
-    by : (x : Lost) → loss.lost ≡ x → loss_below loss v ≡ true → lost_in loss d ≡ true → d < v
-    by Nothing p b t = absurd (true≢false (sym t ∙ rw (p, lost_in)))
-    by (Disk x) p b t =
+    by : (x : Option ℕ) → loss.lost ≡ x → loss_below loss v ≡ true → lost_in loss d ≡ true → d < v
+    by None p b t = absurd (true≢false (sym t ∙ rw (p, lost_in)))
+    by (Some x) p b t =
         rw (eqb-true d x (rw (p, lost_in) at t)) (ltb-true x v (rw (p, loss_below) at b))

@@ -8,19 +8,14 @@ use native.Mathlib.Omega.{arith}
 use lib.Dec.{ltb, eqb}
 use lib.ListN.{get_or}
 use borrow.Author.Tests.{ltb-true, ltb-false, eq-eqb, ne_eqb}
+use Rattle.std.specs.Prelude.{Ok, Err}
 use Rattle.design.specs.declared.Refusal.{Refusal}
 use Rattle.design.specs.declared.Refusal.TheVariants.{ShortSheet, OtherEdition, OutsideLimits, OtherLength, DiskOutside, DiskTwice, FillingSet, DisksUneven, PairsUneven, NotAShelf, OtherImage, OutOfRange, OtherBuffer, SomeLost, NoneLost}
-use Rattle.design.specs.declared.Verdict.{Verdict}
-use Rattle.design.specs.declared.Verdict.TheVariants.{Accepted, Refused}
-use Rattle.design.specs.Refusals.{number, Rule, first_broken}
+use Rattle.design.specs.Refusals.{Verdict}
+use Rattle.design.specs.Refusals.{number, number_given, Rule, first_broken}
 use Rattle.design.proofs.Counting.{decided, both}
 
 -- ---- numbers
-
--- what a caller gets: 0 where the call is accepted
-abbrev pub verdict_number : Verdict → ℕ
-verdict_number Accepted = 0
-verdict_number (Refused x) = number x
 
 -- the refusals by their numbers, from 1 on
 refusals : List Refusal
@@ -59,7 +54,7 @@ some_number x = go (number x) refl
     go zero e = let first : x ≡ ShortSheet = sym (numbered x) ∙ ap (λ (n : ℕ). get_or (ShortSheet ∷ refusals) n ShortSheet) e in omega (arith, ap number first)
     go (suc n) e = omega arith
 
-never_both : (v : Verdict) (x : Refusal) → v ≡ Accepted → v ≡ Refused x → ⊥
+never_both : (v : Verdict) (x : Refusal) → v ≡ Ok tt → v ≡ Err x → ⊥
 never_both v x a r = let z : true ≡ false = cc in true≢false z
 
 -- ---- rules listed by rising number
@@ -109,11 +104,11 @@ one_lowest : (rules : List Rule) (m n : ℕ) → LowestBroken rules m → Lowest
 one_lowest rules m n p q = omega (arith, least rules m n p.1 q.0, least rules n m q.1 p.0)
 
 record Keeps (rules : List Rule) : Type 0 where
-  verdict : first_broken rules ≡ Accepted
+  verdict : first_broken rules ≡ Ok tt
   kept : (n : ℕ) → kept_of rules n ≡ true
 
 record Breaks (rules : List Rule) (x : Refusal) : Type 0 where
-  verdict : first_broken rules ≡ Refused x
+  verdict : first_broken rules ≡ Err x
   lowest : LowestBroken rules (number x)
 
 first : (n : ℕ) (rules : List Rule) → rising n rules ≡ true → Keeps rules ⊎ ((x : Refusal) × Breaks rules x)
@@ -147,42 +142,42 @@ first n (x ∷ rules) e = go (decided x.kept) (first (number x.refusal) rules la
 
 module _ (rules : List Rule) (rise : rising 0 rules ≡ true) where
   -- accepted exactly when every rule is kept
-  pub accepts_exactly : (first_broken rules ≡ Accepted) ↔ ((n : ℕ) → kept_of rules n ≡ true)
+  pub accepts_exactly : (first_broken rules ≡ Ok tt) ↔ ((n : ℕ) → kept_of rules n ≡ true)
   accepts_exactly = go (first 0 rules rise)
     where
-      go : Keeps rules ⊎ ((x : Refusal) × Breaks rules x) → (first_broken rules ≡ Accepted) ↔ ((n : ℕ) → kept_of rules n ≡ true)
+      go : Keeps rules ⊎ ((x : Refusal) × Breaks rules x) → (first_broken rules ≡ Ok tt) ↔ ((n : ℕ) → kept_of rules n ≡ true)
       go (inl r) = (λ a. r.kept, λ k. r.verdict)
       go (inr (x, r)) =
           (λ a. absurd (never_both (first_broken rules) x a r.verdict), λ k. absurd (true≢false (sym (k (number x)) ∙ r.lowest.0)))
 
   -- refused exactly by the broken rule of the lowest number
-  pub refuses_exactly : (x : Refusal) → (first_broken rules ≡ Refused x) ↔ LowestBroken rules (number x)
+  pub refuses_exactly : (x : Refusal) → (first_broken rules ≡ Err x) ↔ LowestBroken rules (number x)
   refuses_exactly x = go (first 0 rules rise)
     where
-      go : Keeps rules ⊎ ((y : Refusal) × Breaks rules y) → (first_broken rules ≡ Refused x) ↔ LowestBroken rules (number x)
+      go : Keeps rules ⊎ ((y : Refusal) × Breaks rules y) → (first_broken rules ≡ Err x) ↔ LowestBroken rules (number x)
       go (inl r) =
           (λ a. absurd (never_both (first_broken rules) x r.verdict a), λ l. absurd (true≢false (sym (r.kept (number x)) ∙ l.0)))
       go (inr (y, r)) = (
         λ a. let e : y ≡ x = cc (a, r.verdict) in rw e at r.lowest,
-        λ l. r.verdict ∙ ap Refused (number_inj y x (one_lowest rules (number y) (number x) r.lowest l)),
+        λ l. r.verdict ∙ ap Err (number_inj y x (one_lowest rules (number y) (number x) r.lowest l)),
       )
 
   -- the same of the number that a caller gets
-  pub gives_exactly : (n : ℕ) → 1 ≤ n → (verdict_number (first_broken rules) ≡ n) ↔ LowestBroken rules n
+  pub gives_exactly : (n : ℕ) → 1 ≤ n → (number_given (first_broken rules) ≡ n) ↔ LowestBroken rules n
   gives_exactly n h = go (first 0 rules rise)
     where
-      go : Keeps rules ⊎ ((x : Refusal) × Breaks rules x) → (verdict_number (first_broken rules) ≡ n) ↔ LowestBroken rules n
-      go (inl r) = (λ a. absurd (omega (arith, ap verdict_number r.verdict)), λ l. absurd (true≢false (sym (r.kept n) ∙ l.0)))
+      go : Keeps rules ⊎ ((x : Refusal) × Breaks rules x) → (number_given (first_broken rules) ≡ n) ↔ LowestBroken rules n
+      go (inl r) = (λ a. absurd (omega (arith, ap number_given r.verdict)), λ l. absurd (true≢false (sym (r.kept n) ∙ l.0)))
       go (inr (x, r)) = (
-        λ a. let e : number x ≡ n = sym (ap verdict_number r.verdict) ∙ a in rw e at r.lowest,
-        λ l. ap verdict_number r.verdict ∙ one_lowest rules (number x) n r.lowest l,
+        λ a. let e : number x ≡ n = sym (ap number_given r.verdict) ∙ a in rw e at r.lowest,
+        λ l. ap number_given r.verdict ∙ one_lowest rules (number x) n r.lowest l,
       )
 
   -- where a rule is broken, a number is given, and none of a broken rule is lower
-  pub gives_lowest : (n : ℕ) → kept_of rules n ≡ false → (1 ≤ verdict_number (first_broken rules)) × (verdict_number (first_broken rules) ≤ n)
+  pub gives_lowest : (n : ℕ) → kept_of rules n ≡ false → (1 ≤ number_given (first_broken rules)) × (number_given (first_broken rules) ≤ n)
   gives_lowest n b = go (first 0 rules rise)
     where
-      go : Keeps rules ⊎ ((x : Refusal) × Breaks rules x) → (1 ≤ verdict_number (first_broken rules)) × (verdict_number (first_broken rules) ≤ n)
+      go : Keeps rules ⊎ ((x : Refusal) × Breaks rules x) → (1 ≤ number_given (first_broken rules)) × (number_given (first_broken rules) ≤ n)
       go (inl r) = absurd (true≢false (sym (r.kept n) ∙ b))
       go (inr (x, r)) =
           rw r.verdict

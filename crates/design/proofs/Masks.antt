@@ -1,16 +1,22 @@
 -- Laws of a tuple's mask. Assumes nothing.
 use mathlib.Core.Path.{◌≡◌, refl, sym, ap, ap₂, ◌∙◌}
 use mathlib.Core.Bool.{Bool, true, false, cond, ◌||◌}
-use Prim.Native.Nat.{ℕ, ◌+◌, ◌*◌, ◌%◌, ◌^◌, ◌<◌}
+use Prim.Native.Nat.{ℕ, zero, suc, ◌≤◌, ◌+◌, ◌*◌, ◌%◌, ◌^◌, ◌<◌}
 use native.Mathlib.Nat.{add-zero}
 use native.Mathlib.Omega.{arith}
 use lib.Dec.{eqb, ltb}
 use lib.Bits.{bit_or}
+use lib.ListN.{length, get_or, take}
+use native.Mathlib.Numerals.{add-one}
+use lib.Seq.{take_all}
+use Rattle.std.proofs.lemmas.List.Sums.{fold_more}
+use mathlib.Core.List.{List}
+use Rattle.std.specs.List.{All, fold}
 use borrow.Author.Tests.{lt-ltb}
 use Rattle.design.specs.Count.{count}
 use Rattle.design.specs.Tuples.{has}
 use Rattle.design.specs.inner.Planes.{bit}
-use Rattle.design.specs.inner.Tally.{MaskOf}
+use Rattle.design.specs.inner.Tally.{disk_at, MaskOf}
 use Rattle.design.proofs.Sums.{count_next}
 use Rattle.design.proofs.Bits.{bit_zero, bit_of, bit-or, bit-one}
 
@@ -48,3 +54,18 @@ mask_next tuple p mask h m e =
     go true false = refl
     go false true = refl
     go false false = refl
+
+-- the mask of a whole tuple
+pub mask_all : (tuple : List ℕ) → All (λ d. d < 64) tuple → MaskOf (disk_at tuple) (length tuple) (fold (λ m d. bit_or m ((1 * 2 ^ d) % 2 ^ 64)) 0 tuple)
+mask_all tuple h =
+    let whole : take (length tuple) tuple ≡ tuple = take_all (length tuple) tuple (omega arith) in
+    rw whole at (go (length tuple) (omega arith))
+  where
+    add : ℕ → ℕ → ℕ
+    add m d = bit_or m ((1 * 2 ^ d) % 2 ^ 64)
+
+    go : (i : ℕ) → i ≤ length tuple → MaskOf (disk_at tuple) i (fold add 0 (take i tuple))
+    go zero l = mask_none (disk_at tuple)
+    go (suc i) l =
+        let more : MaskOf (disk_at tuple) (i + 1) (add (fold add 0 (take i tuple)) (get_or tuple i 0)) = mask_next (disk_at tuple) i (fold add 0 (take i tuple)) (h i 0 l) (go i (omega arith)) in
+        rw (← fold_more add 0 tuple i 0 l, add-one) at more

@@ -1,21 +1,20 @@
 -- The numbers of document 01 as numerals: of each refusal, of each call's rules, of the limits and of the empty shelf. What is
 -- said elsewhere by names is said here by the numbers that the document prints. Assumes nothing.
-use mathlib.Core.Path.{◌≡◌, refl, ap, ◌∙◌}
+use mathlib.Core.Path.{◌≡◌, refl, ◌∙◌}
 use mathlib.Core.Bool.{Bool, true, false, cond, not}
 use mathlib.Core.List.{List, [], ◌∷◌, map}
 use Prim.Native.Nat.{ℕ, ◌*◌, ◌<◌}
 use lib.Dec.{leb, eqb}
 use lib.ListN.{length, get_or, length-replicate, get_or-replicate}
+use Rattle.std.specs.Prelude.{Err}
 use Rattle.design.specs.declared.Refusal.TheVariants.{ShortSheet, OtherEdition, OutsideLimits, OtherLength, DiskOutside, DiskTwice, FillingSet, DisksUneven, PairsUneven, NotAShelf, OtherImage, OutOfRange, OtherBuffer, SomeLost, NoneLost}
 use Rattle.design.specs.declared.Shelf.{Shelf}
-use Rattle.design.specs.declared.Verdict.TheVariants.{Refused}
-use Rattle.design.specs.Refusals.{Rule, number, first_broken}
+use Rattle.design.specs.Refusals.{Rule, number, first_broken, number_given}
 use Rattle.design.specs.Tuples.{before, shared, disks_below, none_twice, disks_even, pairs_even}
 use Rattle.design.specs.Sheet.{edition_of, v_of, k_of, b_of, t_of, u_of, design_of, sheet_length, within_limits, filling_zero, sheet_rules, table_size, opened, empty_shelf}
 use Rattle.design.specs.Loss.{no_loss}
 use Rattle.design.specs.Shelf.{is_shelf, back_rules}
-use Rattle.design.proofs.Lowest.{verdict_number}
-use Rattle.design.proofs.Refused.{opened-verdict}
+use Rattle.design.proofs.Refused.{opened-number}
 
 -- the refusals in the order of the document's table have the numbers 1 to 15
 pub numbers_are : map number (ShortSheet ∷ OtherEdition ∷ OutsideLimits ∷ OtherLength ∷ DiskOutside ∷ DiskTwice ∷ FillingSet ∷ DisksUneven ∷ PairsUneven ∷ NotAShelf ∷ OtherImage ∷ OutOfRange ∷ OtherBuffer ∷ SomeLost ∷ NoneLost ∷ [])
@@ -42,18 +41,18 @@ first_of (x ∷ cases) = cond x.holds x.number (first_of cases)
 abbrev pub case_of : Rule → Case
 case_of x = case (number x.refusal) (not x.kept)
 
-pub rules_give : (rules : List Rule) → verdict_number (first_broken rules) ≡ first_of (map case_of rules)
+pub rules_give : (rules : List Rule) → number_given (first_broken rules) ≡ first_of (map case_of rules)
 unfolding first_broken first_of
 rules_give [] = refl
 rules_give (x ∷ rules) = go x.kept (rules_give rules)
   where
-    go : (kept : Bool) → verdict_number (first_broken rules) ≡ first_of (map case_of rules)
-        → verdict_number (cond kept (first_broken rules) (Refused x.refusal)) ≡ cond (not kept) (number x.refusal) (first_of (map case_of rules))
+    go : (kept : Bool) → number_given (first_broken rules) ≡ first_of (map case_of rules)
+        → number_given (cond kept (first_broken rules) (Err x.refusal)) ≡ cond (not kept) (number x.refusal) (first_of (map case_of rules))
     go true e = e
     go false e = refl
 
 -- opening
-pub open_gives : (s : List ℕ) → verdict_number (opened s).verdict
+pub open_gives : (s : List ℕ) → number_given (opened s)
     ≡ first_of (case 1 (not (leb 6 (length s)))
     ∷ case 2 (not (eqb (edition_of s) 1))
     ∷ case 3 (not (within_limits (v_of s) (k_of s) (b_of s) (t_of s) (u_of s)))
@@ -65,10 +64,10 @@ pub open_gives : (s : List ℕ) → verdict_number (opened s).verdict
     ∷ case 9 (not (pairs_even (design_of s) (shared (design_of s) (b_of s) 1 0)))
     ∷ [])
 unfolding sheet_rules number
-open_gives s = ap verdict_number (opened-verdict s) ∙ rules_give (sheet_rules s)
+open_gives s = opened-number s ∙ rules_give (sheet_rules s)
 
 -- writing back
-pub write_back_gives : (h : Shelf) (buffer : List ℕ) → verdict_number (first_broken (back_rules h buffer))
+pub write_back_gives : (h : Shelf) (buffer : List ℕ) → number_given (first_broken (back_rules h buffer))
     ≡ first_of (case 10 (not (is_shelf h)) ∷ case 13 (not (leb (sheet_length (h.b * h.k)) (length buffer))) ∷ [])
 unfolding back_rules number
 write_back_gives h buffer = rules_give (back_rules h buffer)

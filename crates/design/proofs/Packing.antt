@@ -4,24 +4,24 @@
 use mathlib.Core.Path.{◌≡◌, refl, sym, ap, ap₂, ◌∙◌}
 use mathlib.Core.Bool.{true, false}
 use mathlib.Core.List.{List, [], ◌∷◌, ◌++◌}
-use Prim.Native.Nat.{ℕ, ◌+◌, ◌*◌, ◌^◌, ◌≤◌, ◌<◌}
+use Prim.Native.Nat.{ℕ, ◌+◌, ◌*◌, ◌≤◌, ◌<◌}
 use native.Mathlib.Nat.{add-zero, add_assoc}
 use native.Mathlib.Numerals.{add-one}
 use native.Mathlib.Omega.{arith}
 use borrow.Author.Tests.{le-leb, lt-leb}
 use lib.ListN.{length, get_or, take, drop, replicate}
 use lib.Seq.{take-suc, length-take-le}
+use Rattle.std.specs.Prelude.{Result, Err, Ok, ⊤}
 use Rattle.fields.specs.Field.{with_field, Wrote}
-use Rattle.fields.specs.declared.Stored.{Stored}
+use Rattle.fields.specs.declared.NoField.{NoField}
 use Rattle.fields.proofs.Writes.{Inside, length-with_field}
 use Rattle.fields.proofs.Laws.{wrote_done}
 use Rattle.design.specs.declared.Shelf.{Shelf}
-use Rattle.design.specs.declared.WriteBack.TheVariants as WriteBack
 use Rattle.design.specs.declared.Refusal.TheVariants.{NotAShelf, OtherBuffer}
-use Rattle.design.specs.Refusals.{first_broken}
+use Rattle.design.specs.Refusals.{first_broken, answered}
 use Rattle.design.specs.Loss.{no_loss, with_loss}
 use Rattle.design.specs.Sheet.{sheet_length}
-use Rattle.design.specs.Shelf.{Piece, packed, header_in, numbers_in, sheet_in, is_shelf, back_rules, back_answer, back_buffer, WroteBack}
+use Rattle.design.specs.Shelf.{Piece, packed, header_in, numbers_in, sheet_in, is_shelf, back_rules, back_buffer, WroteBack}
 
 -- the shelf with no disk lost
 abbrev pub whole : Shelf → Shelf
@@ -55,17 +55,13 @@ length-packed bytes at [] = refl
 length-packed bytes at (x ∷ l) =
     length-packed (with_field bytes at x.width x.value) (at + x.width) l ∙ length-with_field bytes at x.width x.value
 
--- a write that has room puts one piece after those packed
-pub packed_wrote : (bytes : List ℕ) (at : ℕ) (l : List Piece) {before after : List ℕ} {place width value : ℕ} {r : Stored}
-    → Wrote before place width value r after → before ≡ packed bytes at l → place ≡ at + bits_of l → Inside bytes place width → value < 2 ^ width
+-- one piece put after those packed
+pub packed_put : (bytes : List ℕ) (at : ℕ) (l : List Piece) (place width value : ℕ) {before after : List ℕ}
+    → after ≡ with_field before place width value → before ≡ packed bytes at l → place ≡ at + bits_of l
     → after ≡ packed bytes at (l ++ record { width = width; value = value } ∷ [])
 unfolding packed
-packed_wrote bytes at l {before} {after} {place} {width} {value} {r} wrote e p h fits =
-    let same : length before ≡ length bytes = ap length e ∙ length-packed bytes at l in
-    let room : Inside before place width = omega arith in
-    (wrote_done before place width value r after room fits wrote).1
-    ∙ ap₂ (λ (b : List ℕ) (i : ℕ). with_field b i width value) e p
-    ∙ sym (packed-append bytes at l (record { width = width; value = value } ∷ []))
+packed_put bytes at l place width value {before} {after} put e p =
+    put ∙ ap₂ (λ (b : List ℕ) (i : ℕ). with_field b i width value) e p ∙ sym (packed-append bytes at l (record { width = width; value = value } ∷ []))
 
 -- ---- the disk numbers
 
@@ -84,16 +80,23 @@ numbers_more : (table : List ℕ) (i : ℕ) → i < length table
 unfolding numbers_in
 numbers_more table i h = rw (add-one, take-suc table i 0 h) (numbers-append (take i table) (get_or table i 0 ∷ []))
 
+-- the next disk number, put after those before it
+pub number_put : (bytes before after disks : List ℕ) (i : ℕ) → i < length disks → before ≡ packed bytes 48 (numbers_in (take i disks))
+    → after ≡ with_field before (48 + 6 * i) 6 (get_or disks i 0) → after ≡ packed bytes 48 (numbers_in (take (i + 1) disks))
+number_put bytes before after disks i more before-is put =
+    let passed : length (take i disks) ≡ i = length-take-le i disks (omega arith) in
+    let place : 48 + 6 * i ≡ 48 + bits_of (numbers_in (take i disks)) = omega (arith, bits_numbers (take i disks)) in
+    rw (numbers_more disks i more) (packed_put bytes 48 (numbers_in (take i disks)) (48 + 6 * i) 6 (get_or disks i 0) put before-is place)
+
 -- the next disk number of a sheet of n, written after those before it
-pub number_wrote : (bytes before after table : List ℕ) (i n : ℕ) (r : Stored)
+pub number_wrote : (bytes before after table : List ℕ) (i n : ℕ) (r : Result ⊤ NoField)
     → i < n → n ≤ length table → length bytes ≡ sheet_length n → get_or table i 0 < 64 → before ≡ packed bytes 48 (numbers_in (take i table))
     → Wrote before (48 + 6 * i) 6 (get_or table i 0) r after → after ≡ packed bytes 48 (numbers_in (take (i + 1) table))
 unfolding sheet_length
 number_wrote bytes before after table i n r h l e fits before-is wrote =
-    let passed : length (take i table) ≡ i = length-take-le i table (omega arith) in
-    let place : 48 + 6 * i ≡ 48 + bits_of (numbers_in (take i table)) = omega (arith, bits_numbers (take i table)) in
-    let more : i < length table = omega arith in
-    rw (numbers_more table i more) (packed_wrote bytes 48 (numbers_in (take i table)) wrote before-is place (omega arith) fits)
+    let same : length before ≡ length bytes = ap length before-is ∙ length-packed bytes 48 (numbers_in (take i table)) in
+    let room : Inside before (48 + 6 * i) 6 = omega arith in
+    number_put bytes before after table i (omega arith) before-is (wrote_done before (48 + 6 * i) 6 (get_or table i 0) r after room fits wrote).1
 
 -- ---- the sheet
 
@@ -105,19 +108,19 @@ sheet-packed h = packed-append (replicate (sheet_length (h.b * h.k)) 0) 0 (heade
 -- ---- writing back, way by way
 
 module _ (h : Shelf) (buffer : List ℕ) where
-  pub back_not_a-shelf : is_shelf h ≡ false → WroteBack h buffer (WriteBack.Refused NotAShelf) buffer
-  unfolding back_rules first_broken back_answer back_buffer
+  pub back_not_a-shelf : is_shelf h ≡ false → WroteBack h buffer (Err NotAShelf) buffer
+  unfolding back_rules first_broken answered back_buffer
   back_not_a-shelf e = record { answers = rw e; leaves = rw e }
 
-  pub back_other_buffer : is_shelf h ≡ true → length buffer < sheet_length (h.b * h.k) → WroteBack h buffer (WriteBack.Refused OtherBuffer) buffer
-  unfolding back_rules first_broken back_answer back_buffer
+  pub back_other_buffer : is_shelf h ≡ true → length buffer < sheet_length (h.b * h.k) → WroteBack h buffer (Err OtherBuffer) buffer
+  unfolding back_rules first_broken answered back_buffer
   back_other_buffer e l =
       let short = lt-leb (sheet_length (h.b * h.k)) (length buffer) l in
       record { answers = rw (e, short); leaves = rw (e, short) }
 
   pub back_written : is_shelf h ≡ true → sheet_length (h.b * h.k) ≤ length buffer
-      → WroteBack h buffer (WriteBack.Length (sheet_length (h.b * h.k))) (sheet_in h ++ drop (sheet_length (h.b * h.k)) buffer)
-  unfolding back_rules first_broken back_answer back_buffer
+      → WroteBack h buffer (Ok (sheet_length (h.b * h.k))) (sheet_in h ++ drop (sheet_length (h.b * h.k)) buffer)
+  unfolding back_rules first_broken answered back_buffer
   back_written e l =
       let room = le-leb (sheet_length (h.b * h.k)) (length buffer) l in
       record { answers = rw (e, room); leaves = rw (e, room) }

@@ -2,24 +2,19 @@
 use mathlib.Core.Path.{◌≡◌, refl, sym, ap, ◌∙◌}
 use mathlib.Core.Logic.{◌≢◌, ◌⊎◌, inl, inr}
 use mathlib.Core.Bool.{Bool, true, false, cond}
-use mathlib.Core.List.{List}
-use Prim.Native.Nat.{ℕ, zero, suc, ◌+◌, ◌≤◌, ◌<◌, zero-le}
+use mathlib.Core.List.{List, ◌++◌}
+use Prim.Native.Nat.{ℕ, zero, suc, ◌+◌, ◌-◌, ◌≤◌, ◌<◌, zero-le}
 use native.Mathlib.Nat.{zero-add}
 use native.Mathlib.Omega.{arith}
 use lib.Dec.{ltb, eqb}
-use lib.ListN.{length, get_or, set, replicate}
-use lib.Seq.{ext_get_or, get_or-set_same, get_or-set_other}
-use borrow.Author.Tests.{lt-ltb, le-ltb, ltb-true, eqb-true, eqb-false}
+use lib.ListN.{length, get_or, set, drop, replicate, length-append, length-drop, length-replicate, get_or-append}
+use lib.Seq.{ext_get_or, get_or-set_same, get_or-set_other, get_or-append_right}
+use Rattle.std.proofs.lemmas.List.{get_or-drop}
+use borrow.Author.Tests.{lt-ltb, le-ltb, ltb-true, ltb-false, eqb-true, eqb-false}
 use Rattle.fields.specs.Field.{field}
-use Rattle.fields.specs.declared.Found.{Found}
-use Rattle.fields.specs.declared.Found.TheVariants.{Value, NoField}
 use Rattle.fields.proofs.Writes.{field_lt}
 use Rattle.design.specs.Sheet.{table_size, number_of, table_of}
 use Rattle.design.proofs.Counting.{decided, alike, length-list_from, get_or-list_from}
-
-abbrev pub value_of : Found → ℕ
-value_of (Value x) = x
-value_of NoField = 0
 
 -- a number of six bits is a byte
 pub number_lt : (s : List ℕ) (at x : ℕ) → x ≡ field s at 6 → x < 64
@@ -71,3 +66,25 @@ length-table s n = length-list_from 0 table_size _
 pub filled-table : (s table : List ℕ) (n : ℕ) → length table ≡ table_size → Filled (number_of s) n table → table ≡ table_of s n
 filled-table s table n e h =
     ext_get_or 0 table (table_of s n) (e ∙ sym (length-table s n)) (λ j l. let m : j < table_size = omega arith in h j m ∙ sym (table_filled s n j m))
+
+-- the numbers that were read, and the zeros after them
+pub read_table : (s items : List ℕ) (n : ℕ) → length items ≡ n → n ≤ table_size → ((j : ℕ) → j < n → get_or items j 0 ≡ number_of s j)
+    → items ++ drop n (replicate table_size 0) ≡ table_of s n
+read_table s items n e few h = filled-table s table n long (λ j l. at j l (decided (ltb j n)))
+  where
+    rest : List ℕ
+    rest = drop n (replicate table_size 0)
+
+    table : List ℕ
+    table = items ++ rest
+
+    long : length table ≡ table_size
+    long = omega (arith, length-append items rest, length-drop {A = ℕ} n (replicate table_size 0), length-replicate {A = ℕ} table_size 0)
+
+    at : (j : ℕ) → j < table_size → (ltb j n ≡ true) ⊎ (ltb j n ≡ false) → get_or table j 0 ≡ cond (ltb j n) (number_of s j) 0
+    at j l (inl t) =
+        let m : j < length items = omega (arith, ltb-true j n t) in
+        rw t (get_or-append items rest 0 j m ∙ h j (ltb-true j n t))
+    at j l (inr t) =
+        let m : length items ≤ j = omega (arith, ltb-false j n t) in
+        rw t (get_or-append_right items rest j 0 m ∙ get_or-drop n (replicate table_size 0) (j - length items) 0 ∙ get_or-zeros table_size (n + (j - length items)))

@@ -10,13 +10,13 @@ use lib.Dec.{ltb}
 use lib.ListN.{length, get_or}
 use lib.Seq.{get_or-take}
 use borrow.Author.Tests.{ltb-true, ltb-false, le-leb, eq-eqb}
+use Rattle.std.specs.Prelude.{Ok, Err}
+use Rattle.design.specs.Refusals.{verdict}
 use Rattle.fields.proofs.Writes.{IsBytes}
-use Rattle.design.specs.declared.Opened.{Opened}
 use Rattle.design.specs.declared.Refusal.{Refusal}
 use Rattle.design.specs.declared.Shelf.{Shelf}
-use Rattle.design.specs.declared.Verdict.TheVariants.{Accepted, Refused}
 use Rattle.design.specs.Tuples.{Design, before, shared, disks_below, none_twice, disks_even, pairs_even}
-use Rattle.design.specs.Sheet.{v_of, k_of, b_of, number_of, design_of, table_size, table_of, empty_shelf, shelf_of, opened_by, opened, HeaderRead}
+use Rattle.design.specs.Sheet.{v_of, k_of, b_of, number_of, design_of, table_size, table_of, empty_shelf, shelf_of, shelf_or_empty, opened_shelf, opened, HeaderRead}
 use Rattle.design.specs.Loss.{loss_below}
 use Rattle.design.specs.Shelf.{design_in, is_shelf, header_in, sheet_in}
 use Rattle.design.proofs.Counting.{decided, fails}
@@ -26,7 +26,7 @@ use Rattle.design.proofs.Tests.{limits, below_at, below_of, disks_even_lem, pair
 use Rattle.design.proofs.Twice.{twice}
 use Rattle.design.proofs.Losses.{none_below}
 use Rattle.design.proofs.ShelfTests.{IsShelf, shelf_parts, shelf-whole}
-use Rattle.design.proofs.Refused.{accepted_shelf, refused_empty}
+use Rattle.design.proofs.Refused.{accepted_shelf, refused_empty, verdict_ok, ok_shelf}
 use Rattle.design.proofs.Accepted.{disks_below_lem, filling_zero_lem, accepted_well_formed, balanced_as_counted}
 use Rattle.design.proofs.Standing.{numbers_standing, standing_numbers}
 use Rattle.design.proofs.Packing.{whole}
@@ -39,7 +39,7 @@ whole-shelf h l = rw (l, none_below h.v)
 
 -- ---- opening
 
-module _ (s : List ℕ) (e : (opened s).verdict ≡ Accepted) where
+module _ (s : List ℕ) (e : verdict (opened s) ≡ Ok tt) where
   shelf-opened : IsShelf (shelf_of s)
   unfolding shelf_of
   shelf-opened =
@@ -56,7 +56,7 @@ module _ (s : List ℕ) (e : (opened s).verdict ≡ Accepted) where
         loss = none_below (v_of s);
       }
 
-  pub opened_is_shelf : is_shelf (opened s).shelf ≡ true
+  pub opened_is_shelf : is_shelf (opened_shelf s) ≡ true
   opened_is_shelf = rw (accepted_shelf s e) (shelf-whole (shelf_of s) shelf-opened)
 
   opened_full : length (shelf_of s).table ≡ table_size
@@ -81,7 +81,7 @@ module _ (s : List ℕ) (e : (opened s).verdict ≡ Accepted) where
       }
 
   -- writing what was opened gives the sheet back
-  pub opened_writes : IsBytes s → sheet_in (opened s).shelf ≡ s
+  pub opened_writes : IsBytes s → sheet_in (opened_shelf s) ≡ s
   opened_writes bytes =
       let h = shelf_of s in
       rw (accepted_shelf s e)
@@ -131,8 +131,7 @@ module _ (h : Shelf) (w : IsShelf h) (full : length h.table ≡ table_size) (s :
   lambda_read = ap (λ (D : Design). shared D h.b 1 0) design-read ∙ w.paired 1 0 (omega (arith, w.limits.v_least)) (omega arith)
 
   -- the sheet of a shelf opens as that shelf, with no disk lost
-  pub sheet_opens : opened s ≡ record { verdict = Accepted; shelf = whole h }
-  unfolding opened_by
+  pub sheet_opens : opened s ≡ Ok (whole h)
   sheet_opens =
       let D = design_in h in
       let same = design-read in
@@ -142,19 +141,18 @@ module _ (h : Shelf) (w : IsShelf h) (full : length h.table ≡ table_size) (s :
       let even = ap₂ disks_even same r_read ∙ (disks_even_lem D h.r).1 w.often in
       let pairs = ap₂ pairs_even same lambda_read ∙ (pairs_even_lem D h.lambda).1 w.paired in
       sym (accepted s h.v h.k h.b h.T h.u header_read below once filling even pairs)
-      ∙ ap (λ (x : Shelf). record { verdict = Accepted; shelf = x })
-      (sym (shelf-read s h.v h.k h.b h.T h.u header_read table-read (sym r_read) (sym lambda_read) refl))
+      ∙ ap Ok (sym (shelf-read s h.v h.k h.b h.T h.u header_read table-read (sym r_read) (sym lambda_read) refl))
 
 -- a value that an accepted opening can give
 pub record Given (h : Shelf) : Type 0 where
   pub sheet : List ℕ
   pub bytes : IsBytes sheet
-  pub accepts : (opened sheet).verdict ≡ Accepted
-  pub gives : (opened sheet).shelf ≡ h
+  pub accepts : verdict (opened sheet) ≡ Ok tt
+  pub gives : opened_shelf sheet ≡ h
 
 module _ (h : Shelf) (full : length h.table ≡ table_size) where
   -- opening what was written gives the shelf back, its lost disk apart
-  pub written_opens : is_shelf h ≡ true → opened (sheet_in h) ≡ record { verdict = Accepted; shelf = whole h }
+  pub written_opens : is_shelf h ≡ true → opened (sheet_in h) ≡ Ok (whole h)
   written_opens e = let w = shelf_parts h e in sheet_opens h w full (sheet_in h) (written h w full)
 
   -- number 10 is given exactly when the value is not one that an accepted opening can give, a lost disk below v apart
@@ -164,7 +162,7 @@ module _ (h : Shelf) (full : length h.table ≡ table_size) where
       given : is_shelf h ≡ true → Given (whole h) × (loss_below h.loss h.v ≡ true)
       given e =
           let opens = written_opens e in (
-            record { sheet = sheet_in h; bytes = bytes_sheet h; accepts = ap (λ (o : Opened). o.verdict) opens; gives = ap (λ (o : Opened). o.shelf) opens },
+            record { sheet = sheet_in h; bytes = bytes_sheet h; accepts = ap verdict opens ∙ verdict_ok (whole h); gives = ap shelf_or_empty opens ∙ ok_shelf (whole h) },
             (shelf_parts h e).loss,
           )
 
@@ -177,5 +175,5 @@ pub empty_refused : is_shelf empty_shelf ≡ false
 unfolding empty_shelf
 empty_refused = fails (is_shelf empty_shelf) (λ e. let l = (shelf_parts empty_shelf e).limits.v_least in omega arith)
 
-pub refused_not_shelf : (s : List ℕ) (x : Refusal) → (opened s).verdict ≡ Refused x → is_shelf (opened s).shelf ≡ false
+pub refused_not_shelf : (s : List ℕ) (x : Refusal) → verdict (opened s) ≡ Err x → is_shelf (opened_shelf s) ≡ false
 refused_not_shelf s x e = rw (refused_empty s x e) empty_refused

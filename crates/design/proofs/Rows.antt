@@ -1,21 +1,17 @@
--- Laws of adding a mask to a row of planes: the carry goes through its words, and no other row is touched. Assumes nothing.
-use mathlib.Core.Path.{◌≡◌, refl, sym, ap, ◌∙◌}
-use mathlib.Core.Logic.{◌⊎◌, inl, inr, ◌≢◌}
-use mathlib.Core.Bool.{true, false, cond}
+-- Laws of adding a mask to a row of planes: the carry goes through its words. Assumes nothing.
+use mathlib.Core.Path.{◌≡◌, refl, ap}
+use mathlib.Core.Logic.{◌≢◌}
 use mathlib.Core.List.{List}
-use Prim.Native.Nat.{ℕ, zero, suc, ◌+◌, ◌*◌, ◌^◌, ◌≤◌, ◌<◌}
+use Prim.Native.Nat.{ℕ, zero, suc, ◌+◌, ◌*◌, ◌^◌, ◌<◌}
 use native.Mathlib.Nat.{pow-suc}
 use native.Mathlib.Numerals.{add-one}
 use native.Mathlib.Omega.{arith}
-use lib.Dec.{eqb}
-use lib.Bits.{bit_and, bit_xor, and_le_r}
+use lib.Bits.{bit_and, bit_xor, and_le_r, and_comm}
 use lib.ListN.{length, set, length-set}
 use lib.Seq.{get_or-set_same, get_or-set_other}
-use borrow.Author.Tests.{eqb-true, eqb-false}
 use Rattle.design.specs.inner.Planes.{bit, lane, plane_of, counted, AddedRow}
-use Rattle.design.proofs.Counting.{decided}
 use Rattle.design.proofs.Bits.{bit_zero, half-add, no_bits}
-use Rattle.design.proofs.Lanes.{lane_ext, lane-put}
+use Rattle.design.proofs.Lanes.{lane-put}
 
 -- ---- the carry
 
@@ -51,58 +47,33 @@ ripple_ends f g n mask c w h room r = no_bits w c h none
 
 -- ---- the row
 
--- the mask is being added to row d: planes below i have been passed, and c is carried into plane i
-pub record Adding (planes₀ : List ℕ) (d mask : ℕ) (planes : List ℕ) (c i : ℕ) : Type 0 where
-  pub passed : i ≤ 11
+-- the mask is being added to a row: its planes below i have been passed, and c is carried into plane i
+pub record Adding (row₀ : List ℕ) (mask : ℕ) (row : List ℕ) (c i : ℕ) : Type 0 where
   pub carried : c < 2 ^ 64
-  pub long : length planes ≡ 704
-  pub row : Rippled (plane_of planes₀ d) 11 mask i (plane_of planes d) c
-  pub others : (b e : ℕ) → b ≢ d → counted planes b e ≡ counted planes₀ b e
+  pub long : length row ≡ 11
+  pub rippled : Rippled (plane_of row₀) 11 mask i (plane_of row) c
 
-pub adding_none : (planes : List ℕ) (d mask : ℕ) → mask < 2 ^ 64 → length planes ≡ 704 → Adding planes d mask planes mask 0
-adding_none planes d mask h l =
-    record {
-      passed = omega arith;
-      carried = h;
-      long = l;
-      row = ripple_none (plane_of planes d) 11 mask;
-      others = λ b e n. refl;
-    }
+pub adding_none : (row : List ℕ) (mask : ℕ) → mask < 2 ^ 64 → length row ≡ 11 → Adding row mask row mask 0
+adding_none row mask h l = record { carried = h; long = l; rippled = ripple_none (plane_of row) 11 mask }
 
-module _ (planes₀ : List ℕ) (d mask : ℕ) (planes : List ℕ) (c i : ℕ) (a : Adding planes₀ d mask planes c i) where
-  -- with a carry there is a plane to take it
-  pub adding_more : ((e : ℕ) → e < 64 → counted planes₀ d e + bit mask e < 2 ^ 11) → c ≢ 0 → i < 11
-  adding_more room n = go (decided (eqb i 11))
-    where
-      go : (eqb i 11 ≡ true) ⊎ (eqb i 11 ≡ false) → i < 11
-      go (inl e) =
-          let q : i ≡ 11 = eqb-true i 11 e in
-          absurd (n (ripple_ends (plane_of planes₀ d) (plane_of planes d) 11 mask c 64 a.carried room (rw q at a.row)))
-      go (inr e) = let ne : i ≢ 11 = eqb-false i 11 e in omega (arith, a.passed)
-
-  pub adding_next : d < 64 → i < 11
-      → Adding planes₀ d mask (set planes (d * 11 + i) (bit_xor (plane_of planes d i) c)) (bit_and (plane_of planes d i) c) (i + 1)
-  adding_next hd hi =
-      let h : length planes ≡ 704 = a.long in
+module _ (row₀ : List ℕ) (mask : ℕ) (row : List ℕ) (c i : ℕ) (a : Adding row₀ mask row c i) where
+  pub adding_next : i < 11 → Adding row₀ mask (set row i (bit_xor (plane_of row i) c)) (bit_and c (plane_of row i)) (i + 1)
+  adding_next h =
+      let x = bit_xor (plane_of row i) c in
+      let e : length row ≡ 11 = a.long in
+      let more : bit_and (plane_of row i) c ≡ bit_and c (plane_of row i) = and_comm (plane_of row i) c in
       record {
-        passed = omega arith;
-        carried = omega (arith, and_le_r (plane_of planes d i) c, a.carried);
-        long = simp length-set h;
-        row =
-            ripple_next (plane_of planes₀ d) (plane_of planes d) (plane_of (set planes (d * 11 + i) (bit_xor (plane_of planes d i) c)) d) 11 mask i c hi
-            (get_or-set_same planes (d * 11 + i) (bit_xor (plane_of planes d i) c) 0 (omega arith))
-            (λ j l n. get_or-set_other planes (d * 11 + i) (d * 11 + j) (bit_xor (plane_of planes d i) c) 0 (λ q. n (omega arith)))
-            a.row;
-        others =
-            λ b e n.
-            lane_ext _ (plane_of planes b) 11 e
-            (λ j l. get_or-set_other planes (d * 11 + i) (b * 11 + j) (bit_xor (plane_of planes d i) c) 0 (λ q. n (omega arith)))
-            ∙ a.others b e n;
+        carried = omega (arith, and_le_r (plane_of row i) c, a.carried, more);
+        long = simp length-set e;
+        rippled =
+            rw more at (ripple_next (plane_of row₀) (plane_of row) (plane_of (set row i x)) 11 mask i c h
+            (get_or-set_same row i x 0 (omega arith)) (λ j l n. get_or-set_other row i j x 0 n) a.rippled);
       }
 
-  pub adding_done : c ≡ 0 → AddedRow d mask planes₀ planes
-  adding_done z b e = go (decided (eqb d b))
-    where
-      go : (eqb d b ≡ true) ⊎ (eqb d b ≡ false) → counted planes b e ≡ counted planes₀ b e + cond (eqb d b) (bit mask e) 0
-      go (inl p) = rw (p, ← eqb-true d b p) (ripple_done (plane_of planes₀ d) (plane_of planes d) 11 mask i (rw z at a.row) e)
-      go (inr p) = rw p (omega (arith, a.others b e (λ q. eqb-false d b p (sym q))))
+  -- nothing is left to carry
+  pub adding_done : c ≡ 0 → AddedRow mask row₀ row
+  adding_done z = ripple_done (plane_of row₀) (plane_of row) 11 mask i (rw z at a.rippled)
+
+  -- nor is anything at the end of the row, where each lane has room
+  pub adding_end : ((e : ℕ) → e < 64 → counted row₀ e + bit mask e < 2 ^ 11) → i ≡ 11 → AddedRow mask row₀ row
+  adding_end room e = adding_done (ripple_ends (plane_of row₀) (plane_of row) 11 mask c 64 a.carried room (rw e at a.rippled))

@@ -3,17 +3,20 @@ use mathlib.Core.Path.{◌≡◌, refl, sym, ap, ◌∙◌}
 use mathlib.Core.Logic.{◌↔◌}
 use mathlib.Core.Bool.{Bool, true, ◌&&◌, false, true≢false}
 use mathlib.Core.List.{List, [], ◌∷◌}
-use Prim.Native.Nat.{ℕ, zero, suc, ◌+◌, ◌*◌, ◌/◌, ◌%◌, ◌<◌, min}
+use Prim.Native.Nat.{ℕ, zero, suc, ◌+◌, ◌*◌, ◌/◌, ◌%◌, ◌≤◌, ◌<◌, min}
 use native.Mathlib.Nat.{div-add-mod', div-lt_iff_lt-mul, mod-lt, mul-zero}
 use native.Mathlib.Omega.{arith}
 use lib.Arith.{digits_lt}
 use lib.Dec.{leb, ltb, eqb}
-use lib.ListN.{get_or}
+use lib.ListN.{length, get_or, take}
+use lib.Seq.{length-take-le, get_or-take}
+use Rattle.std.specs.List.{All, list_all}
+use Rattle.std.proofs.lemmas.List.{get_or_default}
 use borrow.Author.Tests.{lt-ltb, ltb-true, le-leb, leb-true, eq-eqb, eqb-true}
 use Rattle.design.specs.Count.{every}
 use Rattle.design.specs.Tuples.{Design, in_table, before, shared, disks_below, disks_even, pairs_even}
 use Rattle.design.specs.Sheet.{within_limits, Limits}
-use Rattle.design.proofs.Counting.{both, both_of, alike, every-at, every_of, fails}
+use Rattle.design.proofs.Counting.{both, both_of, alike, every-at, every_of, every_ext, every_listed, fails}
 
 -- ---- tests joined by &&
 
@@ -106,6 +109,15 @@ below_flat v k b table = alike (every (b * k) below) (every b (λ q. every k (λ
             let row = every-at b (λ q. every k (λ p. below (q * k + p))) e (i / k) ((div-lt_iff_lt-mul hk).1 h) in
             ap below (sym (div-add-mod' i k)) ∙ every-at k (λ p. below (i / k * k + p)) row (i % k) (mod-lt i hk)
 
+-- the places in use, lent as a slice
+pub below_part : (v k b : ℕ) (table : List ℕ) → b * k ≤ length table
+    → list_all (λ d. ltb d v) (take (b * k) table) ≡ disks_below (in_table v k b table)
+below_part v k b table room =
+    every_listed (λ d. ltb d v) (take (b * k) table)
+    ∙ ap (λ (n : ℕ). every n (λ i. ltb (get_or (take (b * k) table) i 0) v)) (length-take-le (b * k) table room)
+    ∙ every_ext (b * k) _ _ (λ i l. ap (λ (d : ℕ). ltb d v) (get_or-take (b * k) table i 0 l))
+    ∙ below_flat v k b table
+
 pub below_at : (v k b : ℕ) (table : List ℕ) → disks_below (in_table v k b table) ≡ true → (i : ℕ) → i < b * k → get_or table i 0 < v
 below_at v k b table e i h =
     ltb-true (get_or table i 0) v (every-at (b * k) (λ i. ltb (get_or table i 0) v) (below_flat v k b table ∙ e) i h)
@@ -113,6 +125,13 @@ below_at v k b table e i h =
 pub below_of : (v k b : ℕ) (table : List ℕ) → ((i : ℕ) → i < b * k → get_or table i 0 < v) → disks_below (in_table v k b table) ≡ true
 below_of v k b table h =
     sym (below_flat v k b table) ∙ every_of (b * k) (λ i. ltb (get_or table i 0) v) (λ i l. lt-ltb (get_or table i 0) v (h i l))
+
+-- so each disk there has a row of its own
+pub below_all : (v k b : ℕ) (table : List ℕ) → v ≤ 64 → b * k ≤ length table → disks_below (in_table v k b table) ≡ true
+    → All (λ d. d < 64) (take (b * k) table)
+below_all v k b table few room e i d l =
+    let h : i < b * k = omega (arith, length-take-le (b * k) table room) in
+    rw get_or-take (omega (arith, get_or_default table i d 0 (omega arith), below_at v k b table e i h))
 
 -- ---- rules 8 and 9
 

@@ -1,15 +1,14 @@
 -- What the test behind rule 6 of document 01 says: no tuple has a disk twice. Assumes nothing.
-use mathlib.Core.Path.{◌≡◌, refl, sym, ap, ◌∙◌}
+use mathlib.Core.Path.{◌≡◌, sym, ap, ◌∙◌}
 use mathlib.Core.Logic.{◌⊎◌, inl, inr, ◌↔◌}
 use mathlib.Core.Bool.{Bool, true, false, not, ◌&&◌, true≢false}
-use mathlib.Core.List.{List}
 use Prim.Native.Nat.{ℕ, ◌<◌}
 use native.Mathlib.Omega.{arith}
 use lib.Dec.{ltb, eqb}
 use borrow.Author.Tests.{lt-ltb, ltb-true, ltb-false, eq-eqb, eqb-true, not-true}
-use Rattle.design.specs.declared.Repeat.TheVariants as Repeat
+use Rattle.std.specs.Prelude.{Some, None}
 use Rattle.design.specs.Count.{count, every, nth}
-use Rattle.design.specs.Tuples.{Design, in_table, Different, again, repeated, none_twice}
+use Rattle.design.specs.Tuples.{Design, Different, again, repeated, none_twice}
 use Rattle.design.proofs.Counting.{neither_below, decided, both, both_of, fails, every-at, every_of, count-lt, count_none, none_counted, nth_is, nth-count}
 
 -- ---- rule 6
@@ -76,19 +75,14 @@ twice D = (
     once : ℕ → Bool
     once q = once_up_to D.k (D.disk q) D.k
 
--- v has no part in rule 6
-pub none_twice_any : (v k b : ℕ) (table : List ℕ) → none_twice (in_table 0 k b table) ≡ none_twice (in_table v k b table)
-unfolding none_twice
-none_twice_any v k b table = refl
-
 none_counts : (f : ℕ → Bool) (n : ℕ) → every n (λ i. not (f i)) ≡ true → count f n ≡ 0
 none_counts f n e = count_none f n (λ i h. not-true (f i) (every-at n (λ i. not (f i)) e i h))
 
-pub none_repeated : (tuple : ℕ → ℕ) (k : ℕ) → (repeated tuple k ≡ Repeat.Nothing) ↔ (once_up_to k tuple k ≡ true)
+pub none_repeated : (tuple : ℕ → ℕ) (k : ℕ) → (repeated tuple k ≡ None) ↔ (once_up_to k tuple k ≡ true)
 unfolding repeated
 none_repeated tuple k = (λ e. once e (decided (ltb 0 (count (again tuple k) k))), λ e. rw (none_counts (again tuple k) k e))
   where
-    once : repeated tuple k ≡ Repeat.Nothing → (ltb 0 (count (again tuple k) k) ≡ true) ⊎ (ltb 0 (count (again tuple k) k) ≡ false)
+    once : repeated tuple k ≡ None → (ltb 0 (count (again tuple k) k) ≡ true) ⊎ (ltb 0 (count (again tuple k) k) ≡ false)
         → once_up_to k tuple k ≡ true
     once e (inl t) = let z : ◌≡◌ {A = ℕ} 0 1 = cc (rw t at e) in absurd (omega arith)
     once e (inr t) =
@@ -97,7 +91,7 @@ none_repeated tuple k = (λ e. once e (decided (ltb 0 (count (again tuple k) k))
 
 -- the first position whose disk stands again
 pub repeated-first : (tuple : ℕ → ℕ) (k i : ℕ) → i < k → again tuple k i ≡ true → once_up_to i tuple k ≡ true
-    → repeated tuple k ≡ Repeat.Disk (tuple i)
+    → repeated tuple k ≡ Some (tuple i)
 unfolding repeated
 repeated-first tuple k i h t e =
     let first : nth (again tuple k) k 0 ≡ i = rw (none_counts (again tuple k) i e) at (nth-count (again tuple k) k i h t) in

@@ -1,13 +1,12 @@
 -- Document 01, "The sheet": its fields, its rules by their numbers, and what opening it gives.
-use Rattle.std.specs.Prelude.{◌≡◌, Bool, true, cond, ◌&&◌, List, [], ◌∷◌, ℕ, ◌+◌, ◌-◌, ◌*◌, ◌/◌, ◌≤◌, ◌<◌, min, leb, ltb, eqb, length, replicate}
+use Rattle.std.specs.Prelude.{◌≡◌, Bool, true, cond, ◌&&◌, List, [], ◌∷◌, ℕ, ◌+◌, ◌-◌, ◌*◌, ◌/◌, ◌≤◌, ◌<◌, min, leb, ltb, eqb, length, replicate, Result}
+use Rattle.std.specs.Result.{result_unwrap_or}
 use Rattle.fields.specs.Field.{bit_at, field}
 use Rattle.design.specs.declared.Shelf.{Shelf}
-use Rattle.design.specs.declared.Opened.{Opened}
-use Rattle.design.specs.declared.Verdict.{Verdict}
-use Rattle.design.specs.declared.Verdict.TheVariants.{Accepted, Refused}
+use Rattle.design.specs.declared.Refusal.{Refusal}
 use Rattle.design.specs.declared.Refusal.TheVariants.{ShortSheet, OtherEdition, OutsideLimits, OtherLength, DiskOutside, DiskTwice, FillingSet, DisksUneven, PairsUneven}
 use Rattle.design.specs.Count.{list_from}
-use Rattle.design.specs.Refusals.{Rule, first_broken}
+use Rattle.design.specs.Refusals.{Rule, first_broken, answered}
 use Rattle.design.specs.Loss.{no_loss}
 use Rattle.design.specs.Tuples.{Design, in_table, before, shared, disks_below, none_twice, disks_even, pairs_even}
 
@@ -94,14 +93,16 @@ shelf_of s =
       loss = no_loss;
     }
 
--- a sheet that keeps its rules gives its shelf, any other its refusal and the empty shelf
-unfoldable pub opened_by : Verdict → List ℕ → Opened
-opened_by Accepted s = record { verdict = Accepted; shelf = shelf_of s }
-opened_by (Refused x) s = record { verdict = Refused x; shelf = empty_shelf }
+-- of opening: a sheet that keeps its rules gives its shelf, any other its refusal
+unfoldable pub opened : List ℕ → Result Shelf Refusal
+opened s = answered (first_broken (sheet_rules s)) (shelf_of s)
 
--- of opening
-unfoldable pub opened : List ℕ → Opened
-opened s = opened_by (first_broken (sheet_rules s)) s
+-- the shelf of an answer of opening: the empty one of a refusal
+abbrev pub shelf_or_empty : Result Shelf Refusal → Shelf
+shelf_or_empty answer = result_unwrap_or answer empty_shelf
+
+abbrev pub opened_shelf : List ℕ → Shelf
+opened_shelf s = shelf_or_empty (opened s)
 
 -- v, k, b, T and u are those of a sheet that keeps rules 1 to 4
 pub record HeaderRead (s : List ℕ) (v k b T u : ℕ) : Type 0 where

@@ -1,13 +1,11 @@
 -- Document 01, "The shelf value and the calls": which shelf values a call takes (number 10), and writing one back.
-use Rattle.std.specs.Prelude.{◌≡◌, Bool, ◌&&◌, ◌||◌, List, [], ◌∷◌, ◌++◌, map, ℕ, ◌+◌, ◌*◌, leb, ltb, eqb, length, get_or, take, drop, replicate}
+use Rattle.std.specs.Prelude.{◌≡◌, Bool, ◌&&◌, ◌||◌, List, [], ◌∷◌, ◌++◌, map, ℕ, ◌+◌, ◌*◌, leb, ltb, eqb, length, get_or, take, drop, replicate, Result, Ok, Err}
 use Rattle.fields.specs.Field.{with_field}
 use Rattle.design.specs.declared.Shelf.{Shelf}
-use Rattle.design.specs.declared.Verdict.{Verdict}
-use Rattle.design.specs.declared.Verdict.TheVariants.{Accepted, Refused}
-use Rattle.design.specs.declared.WriteBack.{WriteBack}
+use Rattle.design.specs.declared.Refusal.{Refusal}
 use Rattle.design.specs.declared.Refusal.TheVariants.{NotAShelf, OtherBuffer}
 use Rattle.design.specs.Count.{every}
-use Rattle.design.specs.Refusals.{Rule, first_broken}
+use Rattle.design.specs.Refusals.{Rule, Verdict, first_broken, answered}
 use Rattle.design.specs.Tuples.{Design, in_table, disks_below, none_twice, disks_even, pairs_even}
 use Rattle.design.specs.Loss.{loss_below}
 use Rattle.design.specs.Sheet.{within_limits, sheet_length, table_size}
@@ -66,15 +64,11 @@ unfoldable pub back_rules : Shelf → List ℕ → List Rule
 back_rules h buffer =
     shelf_rule h ∷ record { refusal = OtherBuffer; kept = leb (sheet_length (h.b * h.k)) (length buffer) } ∷ []
 
-unfoldable pub back_answer : Verdict → Shelf → WriteBack
-back_answer Accepted h = WriteBack.Length (sheet_length (h.b * h.k))
-back_answer (Refused x) h = WriteBack.Refused x
-
 unfoldable pub back_buffer : Verdict → Shelf → List ℕ → List ℕ
-back_buffer Accepted h buffer = sheet_in h ++ drop (sheet_length (h.b * h.k)) buffer
-back_buffer (Refused x) h buffer = buffer
+back_buffer (Ok u) h buffer = sheet_in h ++ drop (sheet_length (h.b * h.k)) buffer
+back_buffer (Err x) h buffer = buffer
 
 -- of writing back: the sheet's length or the refusal, and the buffer after it
-pub record WroteBack (h : Shelf) (buffer : List ℕ) (answer : WriteBack) (after : List ℕ) : Type 0 where
-  pub answers : answer ≡ back_answer (first_broken (back_rules h buffer)) h
+pub record WroteBack (h : Shelf) (buffer : List ℕ) (answer : Result ℕ Refusal) (after : List ℕ) : Type 0 where
+  pub answers : answer ≡ answered (first_broken (back_rules h buffer)) (sheet_length (h.b * h.k))
   pub leaves : after ≡ back_buffer (first_broken (back_rules h buffer)) h buffer

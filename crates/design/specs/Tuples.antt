@@ -1,6 +1,5 @@
 -- A design: its tuples of disks, what is counted in them, and when it is balanced (document 01, "The sheet"; source 001).
-use Rattle.std.specs.Prelude.{◌≡◌, ◌≢◌, Bool, not, cond, ◌&&◌, List, ℕ, ◌+◌, ◌*◌, ◌<◌, ltb, eqb, get_or}
-use Rattle.design.specs.declared.Repeat.{Repeat}
+use Rattle.std.specs.Prelude.{◌≡◌, ◌≢◌, Bool, not, cond, ◌&&◌, List, Option, Some, None, ℕ, ◌+◌, ◌*◌, ◌<◌, ltb, eqb, get_or}
 use Rattle.design.specs.Count.{count, every, nth}
 
 -- v disks, b tuples of k disks each; `disk q p` stands at position p of tuple q
@@ -53,8 +52,8 @@ unfoldable pub again : (ℕ → ℕ) → ℕ → ℕ → Bool
 again tuple k i = ltb 0 (count (λ j. ltb i j && eqb (tuple i) (tuple j)) k)
 
 -- the disk of the first such position, or none: "the search .. stops at the first pair found"
-unfoldable pub repeated : (ℕ → ℕ) → ℕ → Repeat
-repeated tuple k = cond (ltb 0 (count (again tuple k) k)) (Repeat.Disk (tuple (nth (again tuple k) k 0))) Repeat.Nothing
+unfoldable pub repeated : (ℕ → ℕ) → ℕ → Option ℕ
+repeated tuple k = cond (ltb 0 (count (again tuple k) k)) (Some (tuple (nth (again tuple k) k 0))) None
 
 -- 6: no disk stands twice in a tuple
 unfoldable pub none_twice : Design → Bool

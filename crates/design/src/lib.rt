@@ -2,9 +2,9 @@
 #![tactic(auto)]
 
 ghost use Rattle.std.specs.Prelude.{◌≡◌};
-ghost use Rattle.design.specs.Refusals.{number};
+ghost use Rattle.design.specs.Refusals.{number, number_given};
 ghost use Rattle.design.specs.Loss.{no_loss, disk_loss};
-ghost use Rattle.design.specs.Sheet.{empty_shelf, opened};
+ghost use Rattle.design.specs.Sheet.{empty_shelf, opened, shelf_or_empty};
 ghost use Rattle.design.specs.Shelf.{is_shelf, WroteBack};
 
 mod back;
@@ -15,7 +15,7 @@ mod rules;
 mod tally;
 
 // Why a call is refused: a variant for each row of document 01, "Numbers a caller can get".
-#[derive(Clone, Copy)]
+#[derive(Clone, Copy, Debug, PartialEq, Eq)]
 pub enum Refusal {
     ShortSheet,
     OtherEdition,
@@ -40,8 +40,7 @@ impl Refusal {
     pub fn number(self) -> usize
         ensures { result ≡ number self }
     {
-        let refusal = self;
-        match refusal {
+        match self {
             Refusal::ShortSheet => 1,
             Refusal::OtherEdition => 2,
             Refusal::OutsideLimits => 3,
@@ -61,23 +60,21 @@ impl Refusal {
     }
 }
 
-#[derive(Clone, Copy)]
-pub enum Verdict {
-    Accepted,
-    Refused(Refusal),
-}
-
-// Which disk is lost, if any.
-#[derive(Clone, Copy)]
-pub enum Lost {
-    Nothing,
-    Disk(u8),
+// 0, or the number of the refusal.
+pub fn number_given<T>(answer: &Result<T, Refusal>) -> usize
+    ensures { result ≡ number_given answer.now }
+{
+    match answer {
+        Ok(_) => 0,
+        Err(refusal) => refusal.number(),
+    }
 }
 
 // What a shelf has lost: the one part of it that calls change.
 #[derive(Clone, Copy)]
 pub struct Loss {
-    pub lost: Lost,
+    // The lost disk, if any.
+    pub lost: Option<u8>,
 }
 
 impl Loss {
@@ -85,26 +82,15 @@ impl Loss {
     pub fn none() -> Loss
         ensures { result ≡ no_loss }
     {
-        Loss {
-            lost: Lost::Nothing,
-        }
+        Loss { lost: None }
     }
 
     // A disk is lost.
     pub fn of(disk: u8) -> Loss
         ensures { result ≡ disk_loss disk }
     {
-        Loss {
-            lost: Lost::Disk(disk),
-        }
+        Loss { lost: Some(disk) }
     }
-}
-
-// The disk that stands twice in a tuple, if any.
-#[derive(Clone, Copy)]
-pub enum Repeat {
-    Disk(u8),
-    Nothing,
 }
 
 // The disk numbers of the tuples, one tuple after another.
@@ -123,20 +109,6 @@ pub struct Shelf {
     pub lambda: usize,
     pub table: Table,
     pub loss: Loss,
-}
-
-// What opening gives. An enum may hold no array, so the shelf stands beside the verdict.
-#[derive(Clone, Copy)]
-pub struct Opened {
-    pub verdict: Verdict,
-    pub shelf: Shelf,
-}
-
-#[derive(Clone, Copy)]
-pub enum WriteBack {
-    // The sheet's length in bytes.
-    Length(usize),
-    Refused(Refusal),
 }
 
 impl Shelf {
@@ -178,10 +150,17 @@ impl Shelf {
     }
 
     // Opens a sheet: the first rule that is broken, or the shelf.
-    pub fn open(sheet: &[u8]) -> Opened
+    pub fn open(sheet: &[u8]) -> Result<Shelf, Refusal>
         ensures { result ≡ opened sheet.now }
     {
         read::open(sheet)
+    }
+
+    // The shelf that an answer of opening gives: the empty one, where it is refused.
+    pub fn or_empty(opened: Result<Shelf, Refusal>) -> Shelf
+        ensures { result ≡ shelf_or_empty opened }
+    {
+        opened.unwrap_or(Shelf::empty())
     }
 
     // Number 10: whether an accepted opening can give this value, a lost disk below v apart. It asks nothing of the
@@ -193,7 +172,7 @@ impl Shelf {
     }
 
     // Writes the sheet into the first bytes of the buffer.
-    pub fn write_back(self, buffer: &mut [u8]) -> WriteBack
+    pub fn write_back(self, buffer: &mut [u8]) -> Result<usize, Refusal>
         ensures { WroteBack self buffer.old result buffer.new }
     {
         back::write_back(self, buffer)

@@ -1,20 +1,9 @@
 // Opening a sheet: its rules one after another, each over the whole sheet (document 01, "Numbers a caller can get").
-ghost use Rattle.std.specs.Prelude.{◌≡◌, ◌+◌, ◌*◌, ◌≤◌, [], length};
-ghost use Rattle.design.specs.declared.Verdict.TheVariants.{Refused};
-ghost use Rattle.design.specs.Sheet.{sheet_length, filling_zero, table_of, opened_by, opened, HeaderRead};
+ghost use Rattle.std.specs.Prelude.{◌≡◌, ◌+◌, ◌*◌, ◌≤◌, length};
+ghost use Rattle.design.specs.Sheet.{sheet_length, filling_zero, table_of, opened, HeaderRead};
 
-use crate::{Loss, Opened, Refusal, Shelf, Table, Verdict, planes, reader, rules, tally};
-
-// A refused opening gives its number and the empty shelf.
-fn refused(refusal: Refusal) -> Opened
-    ensures { result ≡ opened_by (Refused refusal) [] }
-{
-    let shelf = Shelf::empty();
-    Opened {
-        verdict: Verdict::Refused(refusal),
-        shelf,
-    }
-}
+use crate::reader::Header;
+use crate::{Loss, Refusal, Shelf, Table, planes, reader, rules, tally};
 
 // The length of a sheet of n disk numbers.
 pub fn sheet_length(n: usize) -> usize
@@ -31,10 +20,7 @@ fn filling_zero(sheet: &[u8], n: usize) -> bool
 {
     let at = 48 + 6 * n;
     let width = 8 * sheet.len() - at;
-    if width == 0 {
-        return true;
-    }
-    reader::number(sheet, at, width) == 0
+    width == 0 || reader::number(sheet, at, width) == 0
 }
 
 // The table: n disk numbers, and zero past them.
@@ -42,75 +28,68 @@ fn table_of(sheet: &[u8], n: usize) -> Table
     requires { (n ≤ 2048) × (length sheet.now ≡ sheet_length n) }
     ensures { result ≡ table_of sheet.now n }
 {
-    let mut table = [0u8; Shelf::PLACES_MOST];
-    for i in 0..n {
-        table[i] = reader::number(sheet, 48 + 6 * i, 6) as u8;
+    let mut table = [0; Shelf::PLACES_MOST];
+    for (i, entry) in table[..n].iter_mut().enumerate() {
+        *entry = reader::number(sheet, 48 + 6 * i, 6) as u8;
     }
     table
 }
 
 // Rules 5 to 9, of a sheet that keeps rules 1 to 4.
-fn open_table(sheet: &[u8], v: usize, k: usize, b: usize, t: usize, u: usize) -> Opened
-    requires { HeaderRead sheet.now v k b t u }
+fn open_table(sheet: &[u8], header: Header) -> Result<Shelf, Refusal>
+    requires { HeaderRead sheet.now header.v header.k header.b header.T header.u }
     ensures { result ≡ opened sheet.now }
 {
-    let n = b * k;
+    let n = header.b * header.k;
     let table = table_of(sheet, n);
-    if !rules::disks_below(&table, n, v) {
-        return refused(Refusal::DiskOutside);
+    let disks = &table[..n];
+    if !rules::disks_below(disks, header.v) {
+        return Err(Refusal::DiskOutside);
     }
-    if !rules::none_twice(&table, k, b) {
-        return refused(Refusal::DiskTwice);
+    if !rules::none_twice(disks, header.k) {
+        return Err(Refusal::DiskTwice);
     }
     if !filling_zero(sheet, n) {
-        return refused(Refusal::FillingSet);
+        return Err(Refusal::FillingSet);
     }
-    let counts = tally::tally(&table, k, b);
-    let r = planes::count_of(&counts, 0, 0);
-    if !tally::disks_even(&counts, v, r) {
-        return refused(Refusal::DisksUneven);
+    let counts = tally::tally(disks, header.k);
+    let r = planes::count_of(&counts[0], 0);
+    if !tally::disks_even(&counts, header.v, r) {
+        return Err(Refusal::DisksUneven);
     }
-    let lambda = planes::count_of(&counts, 1, 0);
-    if !tally::pairs_even(&counts, v, lambda) {
-        return refused(Refusal::PairsUneven);
+    let lambda = planes::count_of(&counts[1], 0);
+    if !tally::pairs_even(&counts, header.v, lambda) {
+        return Err(Refusal::PairsUneven);
     }
-    let loss = Loss::none();
-    Opened {
-        verdict: Verdict::Accepted,
-        shelf: Shelf {
-            v,
-            k,
-            b,
-            T: t,
-            u,
-            r,
-            lambda,
-            table,
-            loss,
-        },
-    }
+    let shelf = Shelf {
+        v: header.v,
+        k: header.k,
+        b: header.b,
+        T: header.T,
+        u: header.u,
+        r,
+        lambda,
+        table,
+        loss: Loss::none(),
+    };
+    Ok(shelf)
 }
 
-pub fn open(sheet: &[u8]) -> Opened
+pub fn open(sheet: &[u8]) -> Result<Shelf, Refusal>
     ensures { result ≡ opened sheet.now }
 {
     if sheet.len() < 6 {
-        return refused(Refusal::ShortSheet);
+        return Err(Refusal::ShortSheet);
     }
     let header = reader::read_header(sheet);
     if header.edition != 1 {
-        return refused(Refusal::OtherEdition);
+        return Err(Refusal::OtherEdition);
     }
-    let v = header.v;
-    let k = header.k;
-    let b = header.b;
-    let t = header.T;
-    let u = header.u;
-    if !rules::within_limits(v, k, b, t, u) {
-        return refused(Refusal::OutsideLimits);
+    if !rules::within_limits(header.v, header.k, header.b, header.T, header.u) {
+        return Err(Refusal::OutsideLimits);
     }
-    if sheet.len() != sheet_length(b * k) {
-        return refused(Refusal::OtherLength);
+    if sheet.len() != sheet_length(header.b * header.k) {
+        return Err(Refusal::OtherLength);
     }
-    open_table(sheet, v, k, b, t, u)
+    open_table(sheet, header)
 }

@@ -3,8 +3,6 @@ ghost use Rattle.std.specs.Prelude.{◌≡◌, true, ◌+◌, ◌≤◌, ◌<◌
 ghost use Rattle.fields.specs.Field.{field, is_field};
 ghost use Rattle.design.specs.Sheet.{edition_of, v_of, k_of, b_of, t_of, u_of};
 
-use fields::Found;
-
 #[derive(Clone, Copy)]
 pub struct Reader<'a> {
     pub sheet: &'a [u8],
@@ -27,10 +25,7 @@ pub fn number(sheet: &[u8], at: usize, width: usize) -> usize
     requires { is_field sheet.now at width ≡ true }
     ensures { result ≡ field sheet.now at width }
 {
-    match fields::read(sheet, at, width) {
-        Found::Value(x) => x,
-        Found::NoField => 0,
-    }
+    fields::read(sheet, at, width).unwrap()
 }
 
 impl<'a> Reader<'a> {

@@ -1,53 +1,46 @@
 // Rules 8 and 9: how many tuples hold both of two disks, counted for all pairs in one pass over the tuples.
-ghost use Rattle.std.specs.Prelude.{◌≡◌, ℕ, ◌+◌, ◌*◌, ◌≤◌, ◌<◌, eqb, length, get_or};
+ghost use Rattle.std.specs.Prelude.{◌≡◌, true, ℕ, ◌/◌, ◌≤◌, ◌<◌, eqb, length, All};
 ghost use Rattle.design.specs.Count.{every};
-ghost use Rattle.design.specs.Tuples.{in_table, Different};
-ghost use Rattle.design.specs.inner.Planes.{counted};
-ghost use Rattle.design.specs.inner.Tally.{MaskOf, AddedTuple, Tallied};
+ghost use Rattle.design.specs.Tuples.{Different, none_twice};
+ghost use Rattle.design.specs.inner.Planes.{row_of, counted};
+ghost use Rattle.design.specs.inner.Tally.{disk_at, tuples_of, MaskOf, AddedTuple, Tallied};
 
-use crate::planes::Planes;
-use crate::{Table, planes};
+use crate::Shelf;
+use crate::planes::{self, Planes};
 
-// The disks of the tuple of k entries from `from` on, a bit for each.
-fn mask_of(table: &Table, from: usize, k: usize) -> u64
-    requires k_bound { from + k ≤ 2048 }
-    requires by_index { (p : ℕ) → p < k → get_or table.now (from + p) 0 < 64 }
-    ensures { MaskOf (λ p. get_or table.now (from + p) 0) k result }
+// The disks of the tuple, a bit for each.
+fn mask_of(tuple: &[u8]) -> u64
+    requires { All (λ d. d < 64) tuple.now }
+    ensures { MaskOf (disk_at tuple.now) (length tuple.now) result }
 {
-    let mut mask = 0u64;
-    for p in 0..k {
-        let d = table[from + p] as usize;
-        mask |= 1 << d;
-    }
-    mask
+    tuple.iter().fold(0, |mask, d| mask | 1 << *d)
 }
 
 // Adds one at (d, e) for every two disks of the tuple, d = e among them.
-fn tally_tuple(table: &Table, from: usize, k: usize, counts: &mut Planes)
-    requires k_bound { (from + k ≤ 2048) × (length counts.old ≡ 704) }
-    requires by_index { (p : ℕ) → p < k → get_or table.now (from + p) 0 < 64 }
-    requires different { Different (λ p. get_or table.now (from + p) 0) k }
-    requires by_index_2 { (d e : ℕ) → d < 64 → e < 64 → counted counts.old d e ≤ 1024 }
-    ensures counts_len { length counts.new ≡ 704 }
-    ensures added_tuple { AddedTuple (λ p. get_or table.now (from + p) 0) k counts.old counts.new }
+fn tally_tuple(tuple: &[u8], counts: &mut Planes)
+    requires below { All (λ d. d < 64) tuple.now }
+    requires different { Different (disk_at tuple.now) (length tuple.now) }
+    requires room { (d e : ℕ) → d < 64 → e < 64 → counted (row_of counts.old d) e ≤ 1024 }
+    ensures { AddedTuple (disk_at tuple.now) (length tuple.now) counts.old counts.new }
 {
-    let mask = mask_of(table, from, k);
-    for p in 0..k {
-        let d = table[from + p] as usize;
-        planes::add(counts, d, mask);
+    let mask = mask_of(tuple);
+    for d in tuple {
+        planes::add(&mut counts[usize::from(*d)], mask);
     }
 }
 
-// The number of tuples that hold both d and e, in lane e of row d.
-pub fn tally(table: &Table, k: usize, b: usize) -> Planes
-    requires k_bound { (b * k ≤ 2048) × (b ≤ 1024) }
-    requires by_index { (i : ℕ) → i < b * k → get_or table.now i 0 < 64 }
-    requires by_index_2 { (q : ℕ) → q < b → Different (λ p. get_or table.now (q * k + p) 0) k }
-    ensures { Tallied (in_table 0 k b table.now) b result }
+// The number of tuples that hold both d and e, in lane e of row d. Inlined: out of line, the 5,632 bytes are cleared and copied once more
+// in every call with a shelf.
+#[inline(always)]
+pub fn tally(disks: &[u8], k: usize) -> Planes
+    requires few { (0 < k) × (length disks.now / k ≤ 1024) }
+    requires below { All (λ d. d < 64) disks.now }
+    requires different { none_twice (tuples_of k disks.now) ≡ true }
+    ensures { Tallied (tuples_of k disks.now) (length disks.now / k) result }
 {
-    let mut counts = [0u64; planes::WORDS];
-    for q in 0..b {
-        tally_tuple(table, q * k, k, &mut counts);
+    let mut counts = [[0; planes::DEPTH]; Shelf::V_MOST];
+    for tuple in disks.chunks_exact(k) {
+        tally_tuple(tuple, &mut counts);
     }
     counts
 }
@@ -55,28 +48,18 @@ pub fn tally(table: &Table, k: usize, b: usize) -> Planes
 // Rule 8: each of the v disks is counted r times.
 pub fn disks_even(counts: &Planes, v: usize, r: usize) -> bool
     requires { v ≤ 64 }
-    ensures { result ≡ every v (λ d. eqb (counted counts.now d d) r) }
+    ensures { result ≡ every v (λ d. eqb (counted (row_of counts.now d) d) r) }
 {
-    for d in 0..v {
-        if planes::count_of(counts, d, d) != r {
-            return false;
-        }
-    }
-    true
+    (0..v).all(|d| planes::count_of(&counts[d], d) == r)
 }
 
 // Rule 9: each two of the v disks are counted together lambda times. No count is as large as COUNTS, so then there must be no pair.
 pub fn pairs_even(counts: &Planes, v: usize, lambda: usize) -> bool
     requires { v ≤ 64 }
-    ensures { result ≡ every v (λ d. every d (λ e. eqb (counted counts.now d e) lambda)) }
+    ensures { result ≡ every v (λ d. every d (λ e. eqb (counted (row_of counts.now d) e) lambda)) }
 {
     if lambda >= planes::COUNTS {
         return v < 2;
     }
-    for d in 0..v {
-        if !planes::all_below(counts, d, lambda) {
-            return false;
-        }
-    }
-    true
+    (0..v).all(|d| planes::all_below(&counts[d], d, lambda))
 }

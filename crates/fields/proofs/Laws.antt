@@ -11,8 +11,8 @@ use lib.Dec.{leb}
 use lib.ListN.{length, get_or}
 use lib.Pow.{pow_pos}
 use lib.Seq.{ext_get_or}
-use Rattle.fields.specs.declared.Found.{Found}
-use Rattle.fields.specs.declared.Stored.{Stored}
+use Rattle.std.specs.Prelude.{Option, Some, Result, Ok, ⊤}
+use Rattle.fields.specs.declared.NoField.{NoField}
 use Rattle.fields.specs.Field.{bit_at, field, with_field, is_field, found, takes, Wrote}
 use Rattle.fields.proofs.Bits.{half-div, last_div, zero_bit}
 use Rattle.fields.proofs.Writes.{IsBytes, Inside, bit-lt, bit_out, bit_in}
@@ -96,7 +96,7 @@ is_field_iff bytes at w = (
   λ h. rw (le-leb 1 w h.least, le-leb w 32 h.most, le-leb (at + w) (8 * length bytes) h.ends),
 )
 
-pub found-value : (bytes : List ℕ) (at w : ℕ) → Inside bytes at w → found bytes at w ≡ Found.Value (field bytes at w)
+pub found-value : (bytes : List ℕ) (at w : ℕ) → Inside bytes at w → found bytes at w ≡ Some (field bytes at w)
 unfolding found
 found-value bytes at w h = rw ((is_field_iff bytes at w).1 h)
 
@@ -104,17 +104,17 @@ pub takes_true : (bytes : List ℕ) (at w x : ℕ) → Inside bytes at w → x <
 unfolding takes
 takes_true bytes at w x h l = rw ((is_field_iff bytes at w).1 h, lt-ltb x (2 ^ w) l)
 
-pub wrote_done : (bytes : List ℕ) (at w x : ℕ) (r : Stored) (after : List ℕ) → Inside bytes at w → x < 2 ^ w → Wrote bytes at w x r after
-    → (r ≡ Stored.Done) × (after ≡ with_field bytes at w x)
+pub wrote_done : (bytes : List ℕ) (at w x : ℕ) (r : Result ⊤ NoField) (after : List ℕ) → Inside bytes at w → x < 2 ^ w → Wrote bytes at w x r after
+    → (r ≡ Ok tt) × (after ≡ with_field bytes at w x)
 wrote_done bytes at w x r after h l p =
     let e = takes_true bytes at w x h l in
     (rw e at p.answers, rw e at p.leaves)
 
 -- ---- the promises leave no choice
 
-pub found_unique : (bytes : List ℕ) (at width : ℕ) (r r' : Found) → r ≡ found bytes at width → r' ≡ found bytes at width → r ≡ r'
+pub found_unique : (bytes : List ℕ) (at width : ℕ) (r r' : Option ℕ) → r ≡ found bytes at width → r' ≡ found bytes at width → r ≡ r'
 found_unique bytes at width r r' p q = p ∙ sym q
 
-pub wrote_unique : (bytes : List ℕ) (at width x : ℕ) (r r' : Stored) (after after' : List ℕ)
+pub wrote_unique : (bytes : List ℕ) (at width x : ℕ) (r r' : Result ⊤ NoField) (after after' : List ℕ)
     → Wrote bytes at width x r after → Wrote bytes at width x r' after' → (r ≡ r') × (after ≡ after')
 wrote_unique bytes at width x r r' after after' p q = (p.answers ∙ sym q.answers, p.leaves ∙ sym q.leaves)

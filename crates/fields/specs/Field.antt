@@ -1,7 +1,6 @@
 -- A bit field, most significant bit first (document 01, "The sheet"): which bits it has, and what reading and writing it do.
-use Rattle.std.specs.Prelude.{◌≡◌, Bool, cond, ◌&&◌, List, ℕ, zero, suc, ◌+◌, ◌-◌, ◌*◌, ◌/◌, ◌%◌, ◌^◌, leb, ltb, length, get_or, set}
-use Rattle.fields.specs.declared.Found.{Found}
-use Rattle.fields.specs.declared.Stored.{Stored}
+use Rattle.std.specs.Prelude.{◌≡◌, Bool, cond, ◌&&◌, List, ℕ, zero, suc, ◌+◌, ◌-◌, ◌*◌, ◌/◌, ◌%◌, ◌^◌, leb, ltb, length, get_or, set, Option, Some, None, Result, Ok, Err, ⊤}
+use Rattle.fields.specs.declared.NoField.{NoField}
 
 -- bit i of the bytes; bit 0 is the most significant of the first byte
 unfoldable pub bit_at : List ℕ → ℕ → ℕ
@@ -28,14 +27,14 @@ is_field bytes at width = leb 1 width && leb width 32 && leb (at + width) (8 * l
 -- ---- the promises
 
 -- of reading
-unfoldable pub found : List ℕ → ℕ → ℕ → Found
-found bytes at width = cond (is_field bytes at width) (Found.Value (field bytes at width)) Found.NoField
+unfoldable pub found : List ℕ → ℕ → ℕ → Option ℕ
+found bytes at width = cond (is_field bytes at width) (Some (field bytes at width)) None
 
 -- a field that can hold x
 unfoldable pub takes : List ℕ → ℕ → ℕ → ℕ → Bool
 takes bytes at width x = is_field bytes at width && ltb x (2 ^ width)
 
 -- of writing: the answer, and the bytes after it
-pub record Wrote (bytes : List ℕ) (at width x : ℕ) (answer : Stored) (after : List ℕ) : Type 0 where
-  pub answers : answer ≡ cond (takes bytes at width x) Stored.Done Stored.NoField
+pub record Wrote (bytes : List ℕ) (at width x : ℕ) (answer : Result ⊤ NoField) (after : List ℕ) : Type 0 where
+  pub answers : answer ≡ cond (takes bytes at width x) (Ok tt) (Err record {})
   pub leaves : after ≡ cond (takes bytes at width x) (with_field bytes at width x) bytes

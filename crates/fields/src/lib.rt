@@ -4,20 +4,9 @@
 ghost use Rattle.std.specs.Prelude.{◌≡◌, ◌+◌, ◌-◌, ◌*◌, ◌/◌, ◌%◌, ◌^◌, ◌<◌};
 ghost use Rattle.fields.specs.Field.{is_field, found, Wrote};
 
-// What stands in a field.
-#[derive(Clone, Copy)]
-pub enum Found {
-    Value(usize),
-    // No field: its width is not 1 to 32, or it is not wholly inside the bytes.
-    NoField,
-}
-
-#[derive(Clone, Copy)]
-pub enum Stored {
-    Done,
-    // No field, or one too narrow for the value.
-    NoField,
-}
+// No such field: its width is not 1 to 32, it is not wholly inside the bytes, or it is too narrow for the value.
+#[derive(Clone, Copy, Debug, PartialEq, Eq)]
+pub struct NoField;
 
 // Whether the bytes have such a field. Neither the number of all bits nor the field's end need fit a `usize`, so its bytes
 // are counted from the one in which it starts.
@@ -58,35 +47,35 @@ fn with_bit(byte: u8, place: usize, y: usize) -> u8
     (byte as usize - bit_of(byte, place) * weight + y * weight) as u8
 }
 
-// Reads the field of `width` bits from bit `at` on.
-pub fn read(bytes: &[u8], at: usize, width: usize) -> Found
+// Reads the field of `width` bits from bit `at` on, bit by bit: no slice has them.
+pub fn read(bytes: &[u8], at: usize, width: usize) -> Option<usize>
     ensures { result ≡ found bytes.now at width }
 {
     if !is_field(bytes, at, width) {
-        return Found::NoField;
+        return None;
     }
     let mut value: usize = 0;
     for i in 0..width {
         let bit = at % 8 + i;
         value = value * 2 + bit_of(bytes[at / 8 + bit / 8], bit % 8);
     }
-    Found::Value(value)
+    Some(value)
 }
 
-// Writes `value` into the field of `width` bits from bit `at` on.
-pub fn write(bytes: &mut [u8], at: usize, width: usize, value: usize) -> Stored
+// Writes `value` into the field of `width` bits from bit `at` on, likewise.
+pub fn write(bytes: &mut [u8], at: usize, width: usize, value: usize) -> Result<(), NoField>
     ensures { Wrote bytes.old at width value result bytes.new }
 {
     if !is_field(bytes, at, width) {
-        return Stored::NoField;
+        return Err(NoField);
     }
     if value >> width > 0 {
-        return Stored::NoField;
+        return Err(NoField);
     }
     for done in 0..width {
         let bit = at % 8 + done;
         let byte = at / 8 + bit / 8;
         bytes[byte] = with_bit(bytes[byte], bit % 8, (value >> (width - 1 - done)) % 2);
     }
-    Stored::Done
+    Ok(())
 }

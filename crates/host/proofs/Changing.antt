@@ -3,30 +3,33 @@ use mathlib.Core.Path.{◌≡◌, sym, ap, ◌∙◌}
 use mathlib.Core.Bool.{true}
 use mathlib.Core.List.{List}
 use Prim.Native.Nat.{ℕ}
-use lib.ListN.{length, length-replicate}
+use lib.ListN.{length}
+use Rattle.std.specs.Prelude.{Ok, Result}
+use Rattle.design.specs.Count.{list_from}
+use Rattle.design.specs.Loss.{with_loss, no_loss}
+use Rattle.design.proofs.Refused.{ok_same}
+use Rattle.parity.proofs.By.{answer_accepted, lost_verdict}
+use Rattle.design.specs.declared.Refusal.{Refusal}
 use Rattle.design.specs.declared.Shelf.{Shelf}
-use Rattle.design.specs.declared.Verdict.{Verdict}
-use Rattle.design.specs.declared.Verdict.TheVariants.{Accepted, Refused}
+use Rattle.design.specs.Refusals.{verdict, first_broken}
 use Rattle.design.specs.Shelf.{is_shelf}
 use Rattle.design.proofs.Counting.{length-list_from}
-use Rattle.parity.specs.declared.Losing.{Losing}
 use Rattle.parity.specs.declared.Rebuilding.{Rebuilding}
 use Rattle.parity.specs.Stripe.{depth}
-use Rattle.parity.specs.Calls.{by, lost, rebuilding, Rebuilt, read_from}
+use Rattle.parity.specs.Calls.{lost, Rebuilt, read_from, rebuild_rules}
 use Rattle.parity.proofs.Accepted.{lose_accepted, rebuild_accepted}
 
-pub losing-shelf : (h : Shelf) (d : ℕ) {answer : Losing} → answer ≡ lost h d → answer.verdict ≡ Accepted → is_shelf h ≡ true
-unfolding lost
-losing-shelf h d is e = ((lose_accepted h d).0 (ap (λ (x : Losing). x.verdict) (sym is) ∙ e)).shelf
+pub losing-shelf : (h : Shelf) (d : ℕ) {g : Shelf} → lost h d ≡ Ok g → is_shelf h ≡ true
+losing-shelf h d e = ((lose_accepted h d).0 (sym (lost_verdict h d) ∙ ap verdict e)).shelf
 
-count-length : (v : Verdict) (h : Shelf) → length (rebuilding v h).counts ≡ 64
-unfolding by
-count-length Accepted h = length-list_from 0 64 (read_from h 0 (depth h))
-count-length (Refused x) h = length-replicate {A = ℕ} 64 0
+module _ (h : Shelf) (image : List ℕ) {answer : Result Rebuilding Refusal} {image' : List ℕ} (kept : Rebuilt h image answer image') {x : Rebuilding} (is : answer ≡ Ok x) where
+  rebuild_passed : (first_broken (rebuild_rules h (length image)) ≡ Ok tt) × (answer ≡ Ok (record { shelf = with_loss h no_loss; counts = list_from 0 64 (read_from h 0 (depth h)) }))
+  rebuild_passed = answer_accepted _ _ kept.answers (ap verdict is)
 
-module _ (h : Shelf) (image : List ℕ) {answer : Rebuilding} {image' : List ℕ} (kept : Rebuilt h image answer image') where
-  pub rebuilding-shelf : answer.verdict ≡ Accepted → is_shelf h ≡ true
-  rebuilding-shelf e = ((rebuild_accepted h image).0 (sym (ap (λ (x : Rebuilding). x.verdict) kept.answers) ∙ e)).stored.shelf
+  pub rebuilding-shelf : is_shelf h ≡ true
+  rebuilding-shelf = ((rebuild_accepted h image).0 rebuild_passed.0).stored.shelf
 
-  pub rebuilt_counts : length answer.counts ≡ 64
-  rebuilt_counts = ap (λ (x : Rebuilding). length x.counts) kept.answers ∙ count-length _ h
+  pub rebuilt_counts : length x.counts ≡ 64
+  rebuilt_counts =
+      let e : ◌≡◌ {A = Result Rebuilding Refusal} (Ok x) (Ok (record { shelf = with_loss h no_loss; counts = list_from 0 64 (read_from h 0 (depth h)) })) = sym is ∙ rebuild_passed.1 in
+      ap (λ (x : Rebuilding). length x.counts) (ok_same e) ∙ length-list_from 0 64 (read_from h 0 (depth h))

@@ -1,7 +1,5 @@
-pub mod Copying
 pub mod Numbering
 pub mod Holding
-pub mod Answering
 pub mod Spotted
 pub mod Starts
 pub mod Bits

@@ -9,9 +9,8 @@ use native.Mathlib.Omega.{arith}
 use borrow.Author.Tests.{ltb-true}
 use lib.ListN.{length, get_or, take, drop, length-append}
 use lib.Seq.{drop_at, length-take-le}
+use Rattle.std.specs.Prelude.{Some, None, Option}
 use Rattle.design.specs.declared.Loss.{Loss}
-use Rattle.design.specs.declared.Lost.{Lost}
-use Rattle.design.specs.declared.Lost.TheVariants.{Nothing, Disk}
 use Rattle.design.specs.declared.Shelf.{Shelf}
 use Rattle.design.specs.Tuples.{holds, shared}
 use Rattle.design.specs.Loss.{no_loss, disk_loss, loss_below}
@@ -37,17 +36,17 @@ loss_most : (loss : Loss) (v : ℕ) → loss_below loss v ≡ true → v ≤ 64 
 unfolding loss_below loss_number
 loss_most loss v = by loss.lost refl
   where
-    by : (x : Lost) → loss.lost ≡ x → loss_below loss v ≡ true → v ≤ 64 → loss_number loss ≤ 64
-    by Nothing p below l = rw (p, loss_number) (omega arith)
-    by (Disk d) p below l = rw (p, loss_number) (omega (arith, ltb-true d v (rw (p, loss_below) at below)))
+    by : (x : Option ℕ) → loss.lost ≡ x → loss_below loss v ≡ true → v ≤ 64 → loss_number loss ≤ 64
+    by None p below l = rw (p, loss_number) (omega arith)
+    by (Some d) p below l = rw (p, loss_number) (omega (arith, ltb-true d v (rw (p, loss_below) at below)))
 
 loss_back : (loss : Loss) → loss_of (loss_number loss) ≡ loss
 unfolding loss_of loss_number no_loss disk_loss
 loss_back loss = by loss.lost refl
   where
-    by : (x : Lost) → loss.lost ≡ x → loss_of (loss_number loss) ≡ loss
-    by Nothing p = let n : loss_number loss ≡ 0 = rw (p, loss_number) in ap loss_of n ∙ ap (λ (x : Lost). record { lost = x }) (sym p)
-    by (Disk d) p = let n : loss_number loss ≡ d + 1 = rw (p, loss_number) in ap loss_of (n ∙ add-one d) ∙ ap (λ (x : Lost). record { lost = x }) (sym p)
+    by : (x : Option ℕ) → loss.lost ≡ x → loss_of (loss_number loss) ≡ loss
+    by None p = let n : loss_number loss ≡ 0 = rw (p, loss_number) in ap loss_of n ∙ ap (λ (x : Option ℕ). record { lost = x }) (sym p)
+    by (Some d) p = let n : loss_number loss ≡ d + 1 = rw (p, loss_number) in ap loss_of (n ∙ add-one d) ∙ ap (λ (x : Option ℕ). record { lost = x }) (sym p)
 
 module _ (h : Shelf) (ok : is_shelf h ≡ true) where
   numbers_fit : Fit (numbers_in h)

@@ -1,45 +1,13 @@
--- Laws of the places that are answered: one, the use of one, and a run of them. Assumes nothing.
-use mathlib.Core.Path.{◌≡◌, refl, sym, ap, ap₂, ◌∙◌}
-use mathlib.Core.List.{List, [], ◌∷◌}
+-- Laws of a run of places that are put one after another. Assumes nothing.
+use mathlib.Core.Path.{◌≡◌, sym, ap, ap₂, ◌∙◌}
+use mathlib.Core.List.{List}
 use Prim.Native.Nat.{ℕ, suc, ◌+◌, ◌*◌, ◌-◌, ◌<◌, ◌≤◌}
 use native.Mathlib.Omega.{arith}
-use Rattle.design.specs.declared.Refusal.{Refusal}
-use Rattle.design.specs.Refusals.{number}
 use Rattle.placement.specs.declared.Spot.{Spot}
-use Rattle.placement.specs.declared.Placing.{Placing}
-use Rattle.placement.specs.declared.LookUp.{LookUp}
 use Rattle.placement.specs.Layout.{Layout}
 use Rattle.placement.specs.Placed.{spot_of}
 use Rattle.host.specs.Numbers.{numbered}
-use Rattle.host.specs.Places.{spot_numbers, placing_number, placing_into, look_up_number, look_up_into, spots_into}
-
--- ---- one place
-
-module _ {x : Placing} (out : List ℕ) where
-  pub placing_at : {s : Spot} {out' : List ℕ} → x ≡ Placing.At s → out' ≡ numbered out 0 (spot_numbers s) → (0 ≡ placing_number x) × (out' ≡ placing_into x out)
-  unfolding placing_number placing_into
-  placing_at e is = rw e (refl, is)
-
-  pub placing_refused : {y : Refusal} {r : ℕ} → x ≡ Placing.Refused y → r ≡ number y → (r ≡ placing_number x) × (out ≡ placing_into x out)
-  unfolding placing_number placing_into
-  placing_refused e is = rw e (is, refl)
-
--- ---- what stands at a place
-
-module _ {x : LookUp} (out : List ℕ) where
-  pub found_data : {s a : ℕ} {out' : List ℕ} → x ≡ LookUp.Data s a → out' ≡ numbered out 0 (s ∷ a ∷ 0 ∷ []) → (0 ≡ look_up_number x) × (out' ≡ look_up_into x out)
-  unfolding look_up_number look_up_into
-  found_data e is = rw e (refl, is)
-
-  pub found-parity : {s : ℕ} {out' : List ℕ} → x ≡ LookUp.Parity s → out' ≡ numbered out 0 (s ∷ 0 ∷ 1 ∷ []) → (0 ≡ look_up_number x) × (out' ≡ look_up_into x out)
-  unfolding look_up_number look_up_into
-  found-parity e is = rw e (refl, is)
-
-  pub found_refused : {y : Refusal} {r : ℕ} → x ≡ LookUp.Refused y → r ≡ number y → (r ≡ look_up_number x) × (out ≡ look_up_into x out)
-  unfolding look_up_number look_up_into
-  found_refused e is = rw e (is, refl)
-
--- ---- a run
+use Rattle.host.specs.Places.{spot_numbers, spots_into}
 
 -- what is left to write of n records, of which i are written
 abbrev pub spots_left : Layout → ℕ → ℕ → ℕ → List ℕ → List ℕ

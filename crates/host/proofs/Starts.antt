@@ -8,10 +8,10 @@ use native.Mathlib.Omega.{arith}
 use lib.Arith.{digits_lt}
 use lib.ListN.{length, take, drop}
 use lib.Pow.{pow_pos}
+use Rattle.std.specs.Prelude.{Ok, Err}
 use Rattle.design.specs.declared.Refusal.{Refusal}
 use Rattle.design.specs.declared.Shelf.{Shelf}
-use Rattle.design.specs.declared.Verdict.{Verdict}
-use Rattle.design.specs.declared.Verdict.TheVariants.{Accepted, Refused}
+use Rattle.design.specs.Refusals.{Verdict}
 use Rattle.design.specs.Refusals.{first_broken}
 use Rattle.design.specs.Shelf.{is_shelf}
 use Rattle.placement.specs.Layout.{layout_in, stripe_of, j_of}
@@ -34,16 +34,16 @@ none_is [] e = refl
 none_is (x ∷ l) e = absurd (omega arith)
 
 -- a verdict that is no refusal
-not_refused : (v : Verdict) → ((x : Refusal) → v ≡ Refused x → ⊥) → v ≡ Accepted
-not_refused Accepted no-refusal = refl
-not_refused (Refused x) no-refusal = absurd (no-refusal x refl)
+not_refused : (v : Verdict) → ((x : Refusal) → v ≡ Err x → ⊥) → v ≡ Ok tt
+not_refused (Ok tt) no-refusal = refl
+not_refused (Err x) no-refusal = absurd (no-refusal x refl)
 
 -- where the empty part is shown exactly by a refusal: a part of no bytes is a refusal, any other an accepted call
-module _ {v : Verdict} {part all : List ℕ} (shown : part ≡ all) (empty : (all ≡ []) ↔ ((x : Refusal) × (v ≡ Refused x))) where
+module _ {v : Verdict} {part all : List ℕ} (shown : part ≡ all) (empty : (all ≡ []) ↔ ((x : Refusal) × (v ≡ Err x))) where
   part_refused : {A : Type 0} (new old : A) → length part ≡ 0 → old ≡ by v new old
   part_refused new old e = sym (by_refused new old (empty.0 (sym shown ∙ none_is part e)).1)
 
-  part_accepted : (length part ≡ 0 → ⊥) → v ≡ Accepted
+  part_accepted : (length part ≡ 0 → ⊥) → v ≡ Ok tt
   part_accepted some = not_refused v (λ x e. some (ap length (shown ∙ empty.1 (x, e))))
 
 -- ---- a place
@@ -58,7 +58,7 @@ module _ (h : Shelf) (image : List ℕ) (d o : ℕ) where
     start_refused e = part_refused shown (place_empty h image d o) _ _ e
 
     module _ (some : length part ≡ 0 → ⊥) where
-      place_accepted : v ≡ Accepted
+      place_accepted : v ≡ Ok tt
       place_accepted = part_accepted shown (place_empty h image d o) some
 
       place_call : PlaceCall h image d o
@@ -73,7 +73,7 @@ module _ (h : Shelf) (image : List ℕ) (d o : ℕ) where
       start-at = sym (by_accepted _ _ place_accepted)
 
   -- the U bytes from there on are the part that is shown, and they are in the image
-  pub start_shows : first_broken (place_rules h (length image) d o) ≡ Accepted
+  pub start_shows : first_broken (place_rules h (length image) d o) ≡ Ok tt
       → (take (unit_size h) (drop (place_start h (length image) d o) image) ≡ place_shown h image d o)
       × (place_start h (length image) d o + unit_size h ≤ length image)
   unfolding place_start place_shown unit_at
@@ -87,8 +87,8 @@ module _ (h : Shelf) (image : List ℕ) (d o : ℕ) where
 -- ---- an address
 
 module _ (h : Shelf) (image : List ℕ) (a : ℕ) (other : List ℕ) where
-  abbrev verdict : Verdict
-  verdict = first_broken (unit_rules h (length image) a (length other))
+  abbrev judged : Verdict
+  judged = first_broken (unit_rules h (length image) a (length other))
 
   abbrev unit : ℕ
   unit = unit_in h (stripe_of (layout_in h) a) (j_of (layout_in h) a)
@@ -99,7 +99,7 @@ module _ (h : Shelf) (image : List ℕ) (a : ℕ) (other : List ℕ) where
     address_refused e = part_refused shown (address_empty h image a other) _ _ e
 
     module _ (some : length part ≡ 0 → ⊥) where
-      address_accepted : verdict ≡ Accepted
+      address_accepted : judged ≡ Ok tt
       address_accepted = part_accepted shown (address_empty h image a other) some
 
       pub address_call : UnitCall h image a other
@@ -137,7 +137,7 @@ module _ (h : Shelf) (image : List ℕ) (a : ℕ) (other : List ℕ) where
             ap (λ (n : ℕ). n * unit_size h) place_is ∙ sym (start_is ∙ ap (λ t. cond t (unit * unit_size h) second_start) p)
 
   -- the U bytes from there on, or the second buffer, are the part that is shown
-  module _ (e : first_broken (unit_rules h (length image) a (length other)) ≡ Accepted) where
+  module _ (e : first_broken (unit_rules h (length image) a (length other)) ≡ Ok tt) where
     pub address_shows : present h unit ≡ true → take (unit_size h) (drop (address_start h (length image) a (length other)) image) ≡ address_shown h image a other
     unfolding address_start address_shown cell unit_at
     address_shows p =

@@ -5,19 +5,22 @@ use Prim.Native.Nat.{ℕ, ◌*◌, ◌%◌}
 use lib.Dec.{eqb}
 use lib.ListN.{length}
 use borrow.Author.Tests.{eqb-true, eqb-false}
+use Rattle.std.specs.Prelude.{Result}
+use Rattle.design.specs.declared.Refusal.{Refusal}
+use Rattle.design.specs.Refusals.{number_given}
 use Rattle.design.specs.declared.Shelf.{Shelf}
 use Rattle.design.proofs.WritingBack.{wrote_back_unique}
 use Rattle.parity.specs.declared.Cost.{Cost}
 use Rattle.parity.specs.declared.Rebuilding.{Rebuilding}
-use Rattle.parity.specs.Calls.{by, ReadOut, Wrote, WroteStripe}
+use Rattle.parity.specs.Calls.{ReadOut, Wrote, WroteStripe, cost_of, counts_of}
 use Rattle.parity.proofs.Cases.{cases}
 use Rattle.parity.proofs.Unique.{blanked_unique, read_out_unique, wrote_unique, wrote_stripe_unique, rebuilt_unique}
 use Rattle.host.specs.Numbers.{numbered}
-use Rattle.host.specs.Value.{shelf_in, with_shelf}
-use Rattle.host.specs.Answers.{number_of, Told, Into}
-use Rattle.host.specs.Sheets.{HostOpened, back_number, HostWroteBack, sized}
+use Rattle.host.specs.Value.{shelf_in}
+use Rattle.host.specs.Answers.{Told, Into}
+use Rattle.host.specs.Sheets.{HostOpened, HostWroteBack, sized}
 use Rattle.host.specs.Places.{HostPlaced, HostLookedUp, HostRan}
-use Rattle.host.specs.Stored.{HostBlanked, CostGiven, HostWrote, HostWroteStripe, HostReadOut, HostLost, HostRebuilt, HostScrubbed, place_start, address_start}
+use Rattle.host.specs.Stored.{HostBlanked, CostGiven, HostWrote, HostWroteStripe, HostReadOut, HostLost, HostRebuilt, HostScrubbed, place_start, address_start, rebuilt_into}
 
 -- both fit, or none does
 into_both : {n : ℕ} {buffer : List ℕ} {r r' : ℕ} {U U' A A' P : Type 0} → Into n buffer r U A → Into n buffer r' U' A'
@@ -36,12 +39,12 @@ module _ (x y : List ℕ) (r r' : ℕ) (z z' : List ℕ) where
   pub host_wrote_back_unique : HostWroteBack x y r z → HostWroteBack x y r' z' → (r ≡ r') × (z ≡ z')
   host_wrote_back_unique p q =
       let w = wrote_back_unique (shelf_in x) y p.answer q.answer z z' p.keeps q.keeps in
-      (p.gives ∙ ap back_number w.0 ∙ sym q.gives, w.1)
+      (p.gives ∙ ap number_given w.0 ∙ sym q.gives, w.1)
 
   pub host_blanked_unique : HostBlanked x y r z → HostBlanked x y r' z' → (r ≡ r') × (z ≡ z')
   host_blanked_unique p q =
       let w = blanked_unique (shelf_in x) y p.answer q.answer z z' p.keeps q.keeps in
-      (p.gives ∙ ap number_of w.0 ∙ sym q.gives, w.1)
+      (p.gives ∙ ap number_given w.0 ∙ sym q.gives, w.1)
 
 pub sized_unique : (f : Shelf → ℕ) (value : List ℕ) (r r' : ℕ) → r ≡ sized f value → r' ≡ sized f value → r ≡ r'
 sized_unique f value r r' p q = p ∙ sym q
@@ -64,19 +67,19 @@ module _ (value : List ℕ) (a b : ℕ) (out : List ℕ) (r r' : ℕ) (z z' : Li
 -- ---- the stored bytes
 
 -- of a call that answers counts and leaves one buffer, x as it was
-costs_unique : (P : Cost → List ℕ → Type 0) → ((c c' : Cost) (y y' : List ℕ) → P c y → P c' y' → (c ≡ c') × (y ≡ y'))
+costs_unique : (P : Result Cost Refusal → List ℕ → Type 0) → ((c c' : Result Cost Refusal) (y y' : List ℕ) → P c y → P c' y' → (c ≡ c') × (y ≡ y'))
     → (x cost : List ℕ) (r r' : ℕ) (y y' z z' : List ℕ)
-    → Into 2 cost r ((y ≡ x) × (z ≡ cost)) (Told (λ (c : Cost). P c y) (CostGiven cost r z))
-    → Into 2 cost r' ((y' ≡ x) × (z' ≡ cost)) (Told (λ (c : Cost). P c y') (CostGiven cost r' z'))
+    → Into 2 cost r ((y ≡ x) × (z ≡ cost)) (Told (λ (c : Result Cost Refusal). P c y) (CostGiven cost r z))
+    → Into 2 cost r' ((y' ≡ x) × (z' ≡ cost)) (Told (λ (c : Result Cost Refusal). P c y') (CostGiven cost r' z'))
     → (r ≡ r') × (y ≡ y') × (z ≡ z')
 costs_unique P same x cost r r' y y' z z' p q =
     into_both p q
     (λ s t.
     let w = same s.answer t.answer y y' s.keeps t.keeps in
     let e = w.0 in (
-      s.gives.0 ∙ ap (λ (c : Cost). number_of c.verdict) e ∙ sym t.gives.0,
+      s.gives.0 ∙ ap number_given e ∙ sym t.gives.0,
       w.1,
-      s.gives.1 ∙ ap (λ (c : Cost). numbered cost 0 (c.read ∷ c.written ∷ [])) e ∙ sym t.gives.1,
+      s.gives.1 ∙ ap (λ (c : Result Cost Refusal). numbered cost 0 ((cost_of c).read ∷ (cost_of c).written ∷ [])) e ∙ sym t.gives.1,
     ))
     (λ e s t. (e, s.0 ∙ sym t.0, s.1 ∙ sym t.1))
 
@@ -103,10 +106,10 @@ host_rebuilt_unique value image counts r r' x x' y y' z z' p q =
     (λ s t.
     let w = rebuilt_unique (shelf_in value) image s.answer t.answer y y' s.keeps t.keeps in
     let e = w.0 in (
-      s.gives.0 ∙ ap (λ (a : Rebuilding). number_of a.verdict) e ∙ sym t.gives.0,
-      s.gives.1 ∙ ap (λ (a : Rebuilding). by a.verdict (with_shelf value a.shelf) value) e ∙ sym t.gives.1,
+      s.gives.0 ∙ ap number_given e ∙ sym t.gives.0,
+      s.gives.1 ∙ ap (λ (a : Result Rebuilding Refusal). rebuilt_into a value) e ∙ sym t.gives.1,
       w.1,
-      s.gives.2 ∙ ap (λ (a : Rebuilding). numbered counts 0 a.counts) e ∙ sym t.gives.2,
+      s.gives.2 ∙ ap (λ (a : Result Rebuilding Refusal). numbered counts 0 (counts_of a)) e ∙ sym t.gives.2,
     ))
     (λ e s t. (e, s.0 ∙ sym t.0, s.1 ∙ sym t.1, s.2 ∙ sym t.2))
 

@@ -1,13 +1,5 @@
 -- How an answer of a call below reaches the host: its number is given, and its other numbers go into a lent buffer.
 use Rattle.std.specs.Prelude.{◌≡◌, ◌≢◌, List, ℕ, ◌*◌, length}
-use Rattle.design.specs.declared.Verdict.{Verdict}
-use Rattle.design.specs.declared.Verdict.TheVariants.{Accepted, Refused}
-use Rattle.design.specs.Refusals.{number}
-
--- 0, or the refusal's number
-unfoldable pub number_of : Verdict → ℕ
-number_of Accepted = 0
-number_of (Refused r) = number r
 
 -- the host is given this of an answer that the call below promises
 pub record Told {A : Type 0} (promised given : A → Type 0) : Type 0 where

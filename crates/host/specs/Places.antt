@@ -1,51 +1,43 @@
 -- The promises of placing, looking up and running.
-use Rattle.std.specs.Prelude.{◌≡◌, ◌≢◌, List, [], ◌∷◌, ℕ, zero, suc, ◌+◌, ◌*◌, ◌/◌, ◌%◌, length}
-use Rattle.design.specs.declared.Verdict.{Verdict}
-use Rattle.design.specs.Refusals.{number, first_broken}
+use Rattle.std.specs.Prelude.{◌≡◌, ◌≢◌, List, [], ◌∷◌, ℕ, zero, suc, ◌+◌, ◌*◌, ◌/◌, ◌%◌, length, Result}
+use Rattle.std.specs.Prelude.{Ok, Err}
+use Rattle.design.specs.declared.Refusal.{Refusal}
+use Rattle.design.specs.Refusals.{Verdict}
+use Rattle.design.specs.Refusals.{number_given, first_broken}
 use Rattle.placement.specs.declared.Spot.{Spot}
-use Rattle.placement.specs.declared.Placing.{Placing}
 use Rattle.placement.specs.declared.LookUp.{LookUp}
 use Rattle.placement.specs.Layout.{Layout, layout_in}
 use Rattle.placement.specs.Placed.{spot_of, placed, looked_up, run_rules}
 use Rattle.parity.specs.Calls.{by}
 use Rattle.host.specs.Numbers.{numbered}
 use Rattle.host.specs.Value.{shelf_in}
-use Rattle.host.specs.Answers.{number_of, Into}
+use Rattle.host.specs.Answers.{Into}
 
 -- ---- placing: disk, offset, and those of the parity
 
 unfoldable pub spot_numbers : Spot → List ℕ
 spot_numbers x = x.disk ∷ x.offset ∷ x.parity_disk ∷ x.parity_offset ∷ []
 
-unfoldable pub placing_number : Placing → ℕ
-placing_number (Placing.At x) = 0
-placing_number (Placing.Refused x) = number x
-
-unfoldable pub placing_into : Placing → List ℕ → List ℕ
-placing_into (Placing.At x) out = numbered out 0 (spot_numbers x)
-placing_into (Placing.Refused x) out = out
+unfoldable pub placing_into : Result Spot Refusal → List ℕ → List ℕ
+placing_into (Ok x) out = numbered out 0 (spot_numbers x)
+placing_into (Err x) out = out
 
 abbrev pub HostPlaced : List ℕ → ℕ → List ℕ → ℕ → List ℕ → Type 0
 HostPlaced value a out r out' =
     Into 4 out r (out' ≡ out)
-    ((r ≡ placing_number (placed (shelf_in value) a)) × (out' ≡ placing_into (placed (shelf_in value) a) out))
+    ((r ≡ number_given (placed (shelf_in value) a)) × (out' ≡ placing_into (placed (shelf_in value) a) out))
 
 -- ---- looking up: stripe, address, and 1 for parity
 
-unfoldable pub look_up_number : LookUp → ℕ
-look_up_number (LookUp.Data s a) = 0
-look_up_number (LookUp.Parity s) = 0
-look_up_number (LookUp.Refused x) = number x
-
-unfoldable pub look_up_into : LookUp → List ℕ → List ℕ
-look_up_into (LookUp.Data s a) out = numbered out 0 (s ∷ a ∷ 0 ∷ [])
-look_up_into (LookUp.Parity s) out = numbered out 0 (s ∷ 0 ∷ 1 ∷ [])
-look_up_into (LookUp.Refused x) out = out
+unfoldable pub look_up_into : Result LookUp Refusal → List ℕ → List ℕ
+look_up_into (Ok (LookUp.Data s a)) out = numbered out 0 (s ∷ a ∷ 0 ∷ [])
+look_up_into (Ok (LookUp.Parity s)) out = numbered out 0 (s ∷ 0 ∷ 1 ∷ [])
+look_up_into (Err x) out = out
 
 abbrev pub HostLookedUp : List ℕ → ℕ → ℕ → List ℕ → ℕ → List ℕ → Type 0
 HostLookedUp value d o out r out' =
     Into 3 out r (out' ≡ out)
-    ((r ≡ look_up_number (looked_up (shelf_in value) d o)) × (out' ≡ look_up_into (looked_up (shelf_in value) d o) out))
+    ((r ≡ number_given (looked_up (shelf_in value) d o)) × (out' ≡ look_up_into (looked_up (shelf_in value) d o) out))
 
 -- ---- running: 16 bytes for each record
 
@@ -63,5 +55,5 @@ run_into value first out =
 
 -- bytes that are no whole records are number 13 before anything is looked at
 pub record HostRan (value : List ℕ) (first : ℕ) (out : List ℕ) (r : ℕ) (out' : List ℕ) : Type 0 where
-  pub fits : length out % 16 ≡ 0 → (r ≡ number_of (run_verdict value first out)) × (out' ≡ run_into value first out)
+  pub fits : length out % 16 ≡ 0 → (r ≡ number_given (run_verdict value first out)) × (out' ≡ run_into value first out)
   pub other : length out % 16 ≢ 0 → (r ≡ 13) × (out' ≡ out)

@@ -1,8 +1,9 @@
 -- The shelf value as 2,080 bytes that the host keeps: the numbers v k b T u r lambda, and the lost disk plus one or 0 where none
 -- is; then the table. Any other bytes stand for the empty shelf, which is none (number 10).
-use Rattle.std.specs.Prelude.{Bool, cond, ◌&&◌, List, [], ◌∷◌, ◌++◌, ℕ, zero, suc, ◌+◌, leb, eqb, length, take, drop}
+use Rattle.std.specs.Prelude.{Bool, cond, ◌&&◌, List, [], ◌∷◌, ◌++◌, ℕ, zero, suc, ◌+◌, leb, eqb, length, take, drop, Result, Ok, Err}
+use Rattle.std.specs.Prelude.{Some, None}
+use Rattle.design.specs.declared.Refusal.{Refusal}
 use Rattle.design.specs.declared.Loss.{Loss}
-use Rattle.design.specs.declared.Lost.TheVariants.{Nothing, Disk}
 use Rattle.design.specs.declared.Shelf.{Shelf}
 use Rattle.design.specs.Loss.{no_loss, disk_loss}
 use Rattle.design.specs.Sheet.{empty_shelf}
@@ -10,7 +11,7 @@ use Rattle.host.specs.Numbers.{number_at, numbered}
 
 -- the loss as one number, and back
 unfoldable pub loss_number : Loss → ℕ
-loss_number loss = elim loss.lost [ Nothing ↦ 0 | Disk d ↦ d + 1 ]
+loss_number loss = elim loss.lost [ None ↦ 0 | Some d ↦ d + 1 ]
 
 unfoldable pub loss_of : ℕ → Loss
 loss_of zero = no_loss
@@ -41,3 +42,8 @@ numbers_in h = h.v ∷ h.k ∷ h.b ∷ h.T ∷ h.u ∷ h.r ∷ h.lambda ∷ loss
 -- the bytes with the value of h
 unfoldable pub with_shelf : List ℕ → Shelf → List ℕ
 with_shelf bytes h = take 32 (numbered bytes 0 (numbers_in h)) ++ h.table
+
+-- the shelf of an accepted call is put into them; a refusal leaves them
+unfoldable pub shelf_into : Result Shelf Refusal → List ℕ → List ℕ
+shelf_into (Ok h) bytes = with_shelf bytes h
+shelf_into (Err x) bytes = bytes

@@ -11,5 +11,5 @@ pub mod sizes;
 pub mod stored;
 mod value;
 
-// A lent buffer that has not the answer's length.
+// The number of `Refusal::OtherBuffer`, as C gets it: a lent buffer that has not the answer's length.
 const OTHER_BUFFER: usize = 13;

@@ -1,24 +1,23 @@
 // Where a part that is shown starts. A part cannot be handed out through C, so its first byte's number in the image is.
-ghost use Rattle.std.specs.Prelude.{◌≡◌, true, ◌+◌, ◌*◌, ◌<◌, length};
-ghost use Rattle.design.specs.Shelf.{is_shelf};
+ghost use Rattle.std.specs.Prelude.{◌≡◌, ◌+◌, ◌*◌, ◌<◌, length};
 ghost use Rattle.parity.specs.Stripe.{unit_size, depth};
 ghost use Rattle.host.specs.Value.{shelf_in};
 ghost use Rattle.host.specs.Stored.{place_start, address_start};
 
 use crate::value;
-use design::Shelf;
-use placement::unchecked;
+use placement::Checked;
 
-// Not shown.
-const REFUSED: usize = 18446744073709551615;
+// Not shown. A number, since C has no Option.
+const REFUSED: usize = usize::MAX;
 
-const SECOND_BUFFER: usize = 18446744073709551614;
+// Shown, but not in the image.
+const SECOND_BUFFER: usize = usize::MAX - 1;
 
-fn start(shelf: Shelf, disk: usize, offset: usize) -> usize
-    requires { (is_shelf shelf ≡ true) × (disk < shelf.v) × (offset < depth shelf) }
-    ensures { result ≡ (disk * depth shelf + offset) * unit_size shelf }
+fn start(checked: Checked, disk: usize, offset: usize) -> usize
+    requires { (disk < checked.shelf.now.v) × (offset < depth checked.shelf.now) }
+    ensures { result ≡ (disk * depth checked.entry.shelf.now + offset) * unit_size checked.entry.shelf.now }
 {
-    (disk * unchecked::offsets(shelf) + offset) * (1 << shelf.u)
+    (disk * checked.offsets() + offset) * (1 << checked.shelf.u)
 }
 
 // Where the unit at a place starts in the image.
@@ -33,10 +32,11 @@ pub extern "C" fn shqemtuli_show_place(
 {
     let taken = value::shelf(shelf);
     let part = parity::show_place(taken, image, disk, offset);
-    if part.len() == 0 {
+    if part.is_empty() {
         return REFUSED;
     }
-    start(taken, disk, offset)
+    let checked = Checked { shelf: &taken };
+    start(checked, disk, offset)
 }
 
 // Where the unit of an address starts in the image, or that it is the second buffer. An address that may be shown is not in the
@@ -52,13 +52,14 @@ pub extern "C" fn shqemtuli_show_address<'a>(
 {
     let taken = value::shelf(shelf);
     let part = parity::show_address(taken, image, address, other);
-    if part.len() == 0 {
+    if part.is_empty() {
         return REFUSED;
     }
-    let spot = unchecked::spot(taken, address);
+    let checked = Checked { shelf: &taken };
+    let spot = checked.spot(address);
     let here = parity::show_place(taken, image, spot.disk, spot.offset);
-    if here.len() == 0 {
+    if here.is_empty() {
         return SECOND_BUFFER;
     }
-    start(taken, spot.disk, spot.offset)
+    start(checked, spot.disk, spot.offset)
 }

@@ -1,13 +1,14 @@
-// The sizes of a shelf, in units or in bytes; 0 where the value is none.
+// The sizes of a shelf, in units or in bytes; 0 where the value is none. Six functions, since C knows them by these names.
 ghost use Rattle.std.specs.Prelude.{◌≡◌};
 ghost use Rattle.placement.specs.Layout.{layout_in, stripes, addresses, offsets};
 ghost use Rattle.parity.specs.Stripe.{unit_size, image_size};
 ghost use Rattle.host.specs.Sheets.{sized, sheet_size};
 
 use crate::value;
-use placement::unchecked;
+use design::Shelf;
+use placement::Checked;
 
-#[derive(Clone, Copy)]
+#[derive(Clone, Copy, Default)]
 struct Sizes {
     sheet: usize,
     image: usize,
@@ -18,34 +19,28 @@ struct Sizes {
 }
 
 fn measure(shelf: &[u8]) -> Sizes
-    ensures { (result.sheet ≡ sized sheet_size shelf.now)
-        × (result.image ≡ sized image_size shelf.now)
-        × (result.unit ≡ sized unit_size shelf.now)
-        × (result.stripes ≡ sized (λ h. stripes (layout_in h)) shelf.now)
-        × (result.addresses ≡ sized (λ h. addresses (layout_in h)) shelf.now)
-        × (result.offsets ≡ sized (λ h. offsets (layout_in h)) shelf.now) }
+    ensures sheet { result.sheet ≡ sized sheet_size shelf.now }
+    ensures image { result.image ≡ sized image_size shelf.now }
+    ensures unit { result.unit ≡ sized unit_size shelf.now }
+    ensures stripes { result.stripes ≡ sized (λ h. stripes (layout_in h)) shelf.now }
+    ensures addresses { result.addresses ≡ sized (λ h. addresses (layout_in h)) shelf.now }
+    ensures offsets { result.offsets ≡ sized (λ h. offsets (layout_in h)) shelf.now }
 {
     let taken = value::shelf(shelf);
-    if !taken.is_shelf() {
-        return Sizes {
-            sheet: 0,
-            image: 0,
-            unit: 0,
-            stripes: 0,
-            addresses: 0,
-            offsets: 0,
-        };
-    }
-    let unit = 1 << taken.u;
-    let offsets = unchecked::offsets(taken);
-    let sheet = 6 + (6 * (taken.b * taken.k) + 7) / 8;
-    let image = taken.v * offsets * unit;
+    let Ok(checked) = Checked::of(&taken) else {
+        return Sizes::default();
+    };
+    let Shelf { v, k, b, u, .. } = *checked.shelf;
+    let unit = 1 << u;
+    let offsets = checked.offsets();
+    let sheet = 6 + (6 * (b * k) + 7) / 8;
+    let image = v * offsets * unit;
     Sizes {
         sheet,
         image,
         unit,
-        stripes: unchecked::stripes(taken),
-        addresses: unchecked::addresses(taken),
+        stripes: checked.stripes(),
+        addresses: checked.addresses(),
         offsets,
     }
 }

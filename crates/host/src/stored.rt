@@ -1,8 +1,13 @@
 // The stored bytes: blank, writes, read and scrub.
-ghost use Rattle.std.specs.Prelude.{◌≡◌, length};
+ghost use Rattle.std.specs.Prelude.{Result, ◌≡◌};
+ghost use Rattle.std.specs.Fn.{FnOnceReturnsAtMut};
+ghost use Rattle.parity.specs.declared.Cost.{Cost};
+ghost use Rattle.host.specs.Answers.{Told, Into};
 ghost use Rattle.host.specs.Stored.{HostBlanked, CostGiven, HostWrote, HostWroteStripe, HostReadOut, HostScrubbed};
+ghost use Rattle.design.specs.declared.Refusal.{Refusal};
 
 use crate::{OTHER_BUFFER, numbers, value};
+use design::Refusal;
 use parity::Cost;
 
 // Every image byte becomes zero.
@@ -10,21 +15,30 @@ use parity::Cost;
 pub extern "C" fn shqemtuli_blank(shelf: &[u8], image: &mut [u8]) -> usize
     ensures { HostBlanked shelf.now image.old result image.new }
 {
-    let verdict = parity::blank(value::shelf(shelf), image);
-    numbers::of_verdict(verdict)
+    design::number_given(&parity::blank(value::shelf(shelf), image))
 }
 
 // The bytes of two counts.
-const COST_SIZE: usize = 8;
+const COST_SIZE: usize = 2 * numbers::SIZE;
 
-// Puts the counts of units, and gives the number.
-fn put_cost(cost: &mut [u8], answer: Cost) -> usize
-    requires { length cost.old ≡ 8 }
-    ensures { CostGiven cost.old result cost.new answer }
+// Gives the number of a call that may change lent bytes, and puts its counts of units.
+fn counted<F: FnOnce(&mut [u8]) -> Result<Cost, Refusal>>(
+    cost: &mut [u8],
+    bytes: &mut [u8],
+    call: F,
+) -> usize
+    requires { F.IsAlwaysCallable call }
+    ensures { Into 2 cost.old result ((bytes.new ≡ bytes.old) × (cost.new ≡ cost.old))
+        (Told (λ (answer : Result Cost Refusal). FnOnceReturnsAtMut F.FnOnce call bytes.old answer bytes.new)
+        (CostGiven cost.old result cost.new)) }
 {
-    numbers::put_all(cost, 0, &[answer.read, answer.written]);
-    let verdict = answer.verdict;
-    numbers::of_verdict(verdict)
+    if cost.len() != COST_SIZE {
+        return OTHER_BUFFER;
+    }
+    let answer = call(bytes);
+    let Cost { read, written } = answer.unwrap_or_default();
+    numbers::put_all(cost, 0, &[read, written]);
+    design::number_given(&answer)
 }
 
 // Writes a unit to an address. The units read and written go into the 8 bytes of `cost`.
@@ -38,11 +52,11 @@ pub extern "C" fn shqemtuli_write(
 ) -> usize
     ensures { HostWrote shelf.now image.old address unit.now cost.old result image.new cost.new }
 {
-    if cost.len() != COST_SIZE {
-        return OTHER_BUFFER;
-    }
-    let answer = parity::write(value::shelf(shelf), image, address, unit);
-    put_cost(cost, answer)
+    counted(
+        cost,
+        image,
+        |image| parity::write(value::shelf(shelf), image, address, unit),
+    )
 }
 
 // Writes the k - 1 data units of a stripe, and its parity.
@@ -56,11 +70,11 @@ pub extern "C" fn shqemtuli_write_stripe(
 ) -> usize
     ensures { HostWroteStripe shelf.now image.old stripe buffer.now cost.old result image.new cost.new }
 {
-    if cost.len() != COST_SIZE {
-        return OTHER_BUFFER;
-    }
-    let answer = parity::write_stripe(value::shelf(shelf), image, stripe, buffer);
-    put_cost(cost, answer)
+    counted(
+        cost,
+        image,
+        |image| parity::write_stripe(value::shelf(shelf), image, stripe, buffer),
+    )
 }
 
 // Fills the buffer with the unit of an address.
@@ -74,11 +88,11 @@ pub extern "C" fn shqemtuli_read(
 ) -> usize
     ensures { HostReadOut shelf.now image.now address buffer.old cost.old result buffer.new cost.new }
 {
-    if cost.len() != COST_SIZE {
-        return OTHER_BUFFER;
-    }
-    let answer = parity::read(value::shelf(shelf), image, address, buffer);
-    put_cost(cost, answer)
+    counted(
+        cost,
+        buffer,
+        |buffer| parity::read(value::shelf(shelf), image, address, buffer),
+    )
 }
 
 // The number of wrong stripes, in 4 bytes.
@@ -86,11 +100,10 @@ pub extern "C" fn shqemtuli_read(
 pub extern "C" fn shqemtuli_scrub(shelf: &[u8], image: &[u8], out: &mut [u8]) -> usize
     ensures { HostScrubbed shelf.now image.now out.old result out.new }
 {
-    if out.len() != 4 {
+    if out.len() != numbers::SIZE {
         return OTHER_BUFFER;
     }
-    let answer = parity::scrub(value::shelf(shelf), image);
-    numbers::put_all(out, 0, &[answer.wrong]);
-    let verdict = answer.verdict;
-    numbers::of_verdict(verdict)
+    let wrong = parity::scrub(value::shelf(shelf), image);
+    numbers::put_all(out, 0, &[wrong.unwrap_or(0)]);
+    design::number_given(&wrong)
 }

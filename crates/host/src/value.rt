@@ -1,42 +1,35 @@
 // The shelf value as bytes.
-ghost use Rattle.std.specs.Prelude.{◌≡◌, ◌++◌, ◌≤◌, length, take, drop};
+ghost use Rattle.std.specs.Prelude.{◌≡◌, ◌≤◌, ◌<◌, length, MatchOption};
 ghost use Rattle.host.specs.Value.{loss_number, loss_of, shelf_in, with_shelf};
 
 use crate::numbers;
-use design::{Loss, Lost, Shelf, Table};
+use design::{Loss, Shelf};
+
+// The table stands after eight numbers.
+const TABLE_AT: usize = 8 * numbers::SIZE;
 
 // The bytes of a shelf value.
-pub const SIZE: usize = 2080;
+pub const SIZE: usize = TABLE_AT + Shelf::PLACES_MOST;
 
-fn loss_of(x: usize) -> Loss
-    requires { x ≤ 256 }
-    ensures { result ≡ loss_of x }
+// The loss with this number: 0 is that of none, and past 256 there is no disk.
+fn loss_of(x: usize) -> Option<Loss>
+    ensures { MatchOption result (256 < x) (λ loss. (x ≤ 256) × (loss ≡ loss_of x)) }
 {
     if x == 0 {
-        return Loss::none();
+        return Some(Loss::none());
     }
-    Loss::of((x - 1) as u8)
+    let disk = u8::try_from(x - 1).ok()?;
+    Some(Loss::of(disk))
 }
 
+#[tactic(auto, unfolding(crate::specs::Value::loss_number))]
 fn loss_number(loss: Loss) -> usize
     ensures { result ≡ loss_number loss }
 {
-    let lost = loss.lost;
-    match lost {
-        Lost::Nothing => 0,
-        Lost::Disk(d) => d as usize + 1,
+    match loss.lost {
+        None => 0,
+        Some(d) => usize::from(d) + 1,
     }
-}
-
-fn table(bytes: &[u8]) -> Table
-    requires { length bytes.now ≡ 2080 }
-    ensures { result ≡ drop 32 bytes.now }
-{
-    let mut table = [0u8; Shelf::PLACES_MOST];
-    for i in 0..Shelf::PLACES_MOST {
-        table[i] = bytes[32 + i];
-    }
-    table
 }
 
 // The shelf value in these bytes; the empty one, where they are none.
@@ -46,12 +39,11 @@ pub fn shelf(bytes: &[u8]) -> Shelf
     if bytes.len() != SIZE {
         return Shelf::empty();
     }
-    let lost = numbers::get(bytes, 7);
-    if lost > 256 {
+    let Some(loss) = loss_of(numbers::get(bytes, 7)) else {
         return Shelf::empty();
-    }
-    let table = table(bytes);
-    let loss = loss_of(lost);
+    };
+    let mut table = [0; Shelf::PLACES_MOST];
+    table.copy_from_slice(&bytes[TABLE_AT..]);
     Shelf {
         v: numbers::get(bytes, 0),
         k: numbers::get(bytes, 1),
@@ -65,22 +57,11 @@ pub fn shelf(bytes: &[u8]) -> Shelf
     }
 }
 
-// A reference to an array does not tell its length, so the caller does.
-fn put_table(bytes: &mut [u8], table: &Table)
-    requires { (length bytes.old ≡ 2080) × (length table.now ≡ 2048) }
-    ensures { bytes.new ≡ take 32 bytes.old ++ table.now }
-{
-    for i in 0..Shelf::PLACES_MOST {
-        bytes[32 + i] = table[i];
-    }
-}
-
 // Puts a shelf value into the bytes.
 pub fn put(bytes: &mut [u8], shelf: Shelf)
     requires { length bytes.old ≡ 2080 }
     ensures { bytes.new ≡ with_shelf bytes.old shelf }
 {
-    let loss = shelf.loss;
     let list = [
         shelf.v,
         shelf.k,
@@ -89,9 +70,8 @@ pub fn put(bytes: &mut [u8], shelf: Shelf)
         shelf.u,
         shelf.r,
         shelf.lambda,
-        loss_number(loss),
+        loss_number(shelf.loss),
     ];
     numbers::put_all(bytes, 0, &list);
-    let table = shelf.table;
-    put_table(bytes, &table);
+    bytes[TABLE_AT..].copy_from_slice(&shelf.table);
 }

@@ -1,10 +1,11 @@
 -- The known answers that document 01 marks P: one table of questions and answers.
-use Rattle.std.specs.Prelude.{List, [], ◌∷◌, ℕ}
-use Rattle.design.specs.declared.Verdict.{Verdict}
-use Rattle.design.specs.declared.Verdict.TheVariants.{Accepted, Refused}
+use Rattle.std.specs.Prelude.{List, [], ◌∷◌, ℕ, Result}
+use Rattle.std.specs.Prelude.{Ok, Err}
+use Rattle.placement.specs.declared.Spot.{Spot}
+use Rattle.design.specs.declared.Refusal.{Refusal}
+use Rattle.design.specs.Refusals.{Verdict, verdict}
 use Rattle.design.specs.Refusals.{number}
-use Rattle.design.specs.Sheet.{opened}
-use Rattle.placement.specs.declared.Placing.{Placing}
+use Rattle.design.specs.Sheet.{opened, opened_shelf}
 use Rattle.placement.specs.declared.LookUp.{LookUp}
 use Rattle.placement.specs.Placed.{placed, looked_up}
 
@@ -46,24 +47,24 @@ pub data Answer : Type 0 where
   refused : ℕ → Answer
   accepted : Answer
 
-abbrev pub of_placing : Placing → Answer
-of_placing (Placing.At x) = at x.disk x.offset x.parity_disk x.parity_offset
-of_placing (Placing.Refused x) = refused (number x)
+abbrev pub of_placing : Result Spot Refusal → Answer
+of_placing (Ok x) = at x.disk x.offset x.parity_disk x.parity_offset
+of_placing (Err x) = refused (number x)
 
-abbrev pub of_look_up : LookUp → Answer
-of_look_up (LookUp.Data s a) = data' s a
-of_look_up (LookUp.Parity s) = parity s
-of_look_up (LookUp.Refused x) = refused (number x)
+abbrev pub of_look_up : Result LookUp Refusal → Answer
+of_look_up (Ok (LookUp.Data s a)) = data' s a
+of_look_up (Ok (LookUp.Parity s)) = parity s
+of_look_up (Err x) = refused (number x)
 
 abbrev pub of_verdict : Verdict → Answer
-of_verdict Accepted = accepted
-of_verdict (Refused x) = refused (number x)
+of_verdict (Ok u) = accepted
+of_verdict (Err x) = refused (number x)
 
 -- by the promises: the sheet is opened by the definition of opening
 unfoldable pub answer : Question → Answer
-answer (address s a) = of_placing (placed (opened s).shelf a)
-answer (place s d o) = of_look_up (looked_up (opened s).shelf d o)
-answer (sheet s) = of_verdict (opened s).verdict
+answer (address s a) = of_placing (placed (opened_shelf s) a)
+answer (place s d o) = of_look_up (looked_up (opened_shelf s) d o)
+answer (sheet s) = of_verdict (verdict (opened s))
 
 -- ---- the table
 

@@ -3,8 +3,8 @@ use mathlib.Core.Path.{◌≡◌, refl, sym, ap, ◌∙◌}
 use mathlib.Core.Logic.{◌⊎◌, inl, inr}
 use mathlib.Core.Bool.{true, false}
 use mathlib.Core.List.{List, [], ◌∷◌, ◌++◌}
-use Prim.Native.Nat.{ℕ, zero, suc, ◌+◌, ◌-◌, ◌*◌, ◌/◌, ◌%◌, ◌^◌, ◌≤◌, ◌<◌}
-use native.Mathlib.Nat.{div-lt_iff_lt-mul, div-add-mod'}
+use Prim.Native.Nat.{ℕ, zero, suc, max, ◌+◌, ◌-◌, ◌*◌, ◌/◌, ◌%◌, ◌^◌, ◌≤◌, ◌<◌}
+use native.Mathlib.Nat.{div-lt_iff_lt-mul, div-add-mod', one-le-pow}
 use native.Mathlib.Omega.{arith}
 use lib.Dec.{ltb}
 use lib.ListN.{length, length-append}
@@ -62,6 +62,37 @@ digits_most (suc m) n h = go (decided (ltb n 10)) (digits_most m (n / 10))
     go : (ltb n 10 ≡ true) ⊎ (ltb n 10 ≡ false) → (n / 10 < 10 ^ suc m → length (decimal (n / 10)) ≤ suc m) → length (decimal n) ≤ suc (suc m)
     go (inl e) r = omega (arith, ap length (decimal-one n (ltb-true n 10 e)))
     go (inr e) r = omega (arith, decimal_next n (ltb-false n 10 e), r ((div-lt_iff_lt-mul {k = 10} (omega arith)).1 (omega arith)))
+
+-- and one from 10^m on has more than m
+digits_least : (m n : ℕ) → 10 ^ m ≤ n → suc m ≤ length (decimal n)
+digits_least zero n h = go (decided (ltb n 10))
+  where
+    go : (ltb n 10 ≡ true) ⊎ (ltb n 10 ≡ false) → 1 ≤ length (decimal n)
+    go (inl e) = omega (arith, ap length (decimal-one n (ltb-true n 10 e)))
+    go (inr e) = omega (arith, decimal_next n (ltb-false n 10 e))
+digits_least (suc m) n h = omega (arith, digits_least m (n / 10) (omega (arith, div-add-mod' n 10)), decimal_next n (omega (arith, one-le-pow m 10 (omega arith))))
+
+-- one digit or more
+pub below_ten : (n : ℕ) → length (decimal n) ≤ 1 → n < 10
+below_ten n h = go (decided (ltb n 10))
+  where
+    go : (ltb n 10 ≡ true) ⊎ (ltb n 10 ≡ false) → n < 10
+    go (inl e) = ltb-true n 10 e
+    go (inr e) = absurd (omega (arith, h, digits_least 1 n (ltb-false n 10 e)))
+
+pub ten_of_two : (n : ℕ) → 1 < length (decimal n) → 10 ≤ n
+ten_of_two n h = go (decided (ltb n 10))
+  where
+    go : (ltb n 10 ≡ true) ⊎ (ltb n 10 ≡ false) → 10 ≤ n
+    go (inl e) = absurd (omega (arith, h, digits_most 0 n (ltb-true n 10 e)))
+    go (inr e) = ltb-false n 10 e
+
+-- 0 has as many as 1
+pub digits_count : (m n : ℕ) → 10 ^ m ≤ max n 1 → max n 1 < 10 * 10 ^ m → m + 1 ≡ length (decimal n)
+digits_count zero n l h = sym (ap length (decimal-one n (omega arith)))
+digits_count (suc m) n l h =
+    let some : 1 ≤ 10 ^ m = one-le-pow m 10 (omega arith) in
+    omega (arith, digits_least (suc m) n (omega arith), digits_most (suc m) n (omega arith))
 
 -- ---- reading back
 

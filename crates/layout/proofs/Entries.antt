@@ -1,31 +1,26 @@
 -- The place of an entry, written as its disk, a colon and its offset. Assumes nothing.
 use mathlib.Core.Path.{◌≡◌}
-use mathlib.Core.List.{List, [], ◌∷◌}
-use Prim.Native.Nat.{ℕ, ◌+◌, ◌<◌}
-use native.Mathlib.Omega.{arith}
-use lib.ListN.{length, get_or, set}
+use mathlib.Core.List.{[], ◌∷◌}
+use Prim.Native.Nat.{ℕ, ◌+◌}
+use lib.ListN.{get_or}
+use Rattle.layout.specs.declared.write.Rows.{Rows}
+use Rattle.layout.specs.declared.pen.Pen.{Pen}
 use Rattle.layout.specs.Text.{colon, decimal, spaced}
-use Rattle.layout.specs.inner.Steps.{Fits, Put, entry_word}
-use Rattle.layout.proofs.Puts.{put_one, put_then, fits_front, fits_rest, fits_after}
+use Rattle.layout.specs.inner.Steps.{Fits, Wrote}
+use Rattle.layout.specs.inner.Entry.{entry_word}
+use Rattle.layout.proofs.Puts.{wrote_then, fits_front, fits_rest}
 
-module _ {buffer : List ℕ} {at : ℕ} (table ranks : List ℕ) (base entry : ℕ) (fits : Fits buffer at (entry_word table ranks base entry)) {d : ℕ} (disk : d ≡ get_or table entry 0) where
-  pub disk_fits : Fits buffer at (spaced (decimal d))
-  unfolding entry_word
-  disk_fits = rw disk (fits_front (spaced (decimal (get_or table entry 0))) (colon ∷ decimal (base + get_or ranks entry 0)) fits)
-
-  module _ {middle : ℕ} {between : List ℕ} (p : Put buffer at (spaced (decimal d)) middle between) where
-    rest_fits : Fits between middle (colon ∷ decimal (base + get_or ranks entry 0))
+module _ (rows : Rows) (base entry : ℕ) {pen : Pen} {d : ℕ} (disk : d ≡ get_or rows.checked.shelf.now.table entry 0) where
+  module _ (fits : Fits pen (entry_word rows base entry)) where
+    pub disk_fits : Fits pen (spaced (decimal d))
     unfolding entry_word
-    rest_fits = fits_rest fits (rw disk at p)
+    disk_fits = rw disk (fits_front (spaced (decimal (get_or rows.checked.shelf.now.table entry 0))) (colon ∷ decimal (base + get_or rows.ranks entry 0)) fits)
 
-    pub colon_fits : middle < length between
-    colon_fits = omega (arith, rest_fits.room)
+    pub offset_fits : {between : Pen} → Wrote pen (spaced (decimal d)) between → Fits between (colon ∷ decimal (base + get_or rows.ranks entry 0))
+    unfolding entry_word
+    offset_fits p = fits_rest fits (rw disk at p)
 
-    module _ {o : ℕ} (rank : o ≡ get_or ranks entry 0) where
-      pub offset_fits : Fits (set between middle colon) (middle + 1) (decimal (base + o))
-      offset_fits = rw rank (fits_after colon rest_fits)
-
-      pub entry-put : {next : ℕ} {after : List ℕ} → Put (set between middle colon) (middle + 1) (decimal (base + o)) next after
-          → Put buffer at (entry_word table ranks base entry) next after
-      unfolding entry_word
-      entry-put q = put_then fits (rw disk at p) (put_then {x = colon ∷ []} rest_fits (put_one colon colon_fits) (rw rank at q))
+  pub wrote_entry : {between colon_there after : Pen} → Wrote pen (spaced (decimal d)) between → Wrote between (colon ∷ []) colon_there
+      → {o : ℕ} → o ≡ get_or rows.ranks entry 0 → Wrote colon_there (decimal (base + o)) after → Wrote pen (entry_word rows base entry) after
+  unfolding entry_word
+  wrote_entry p q rank r = wrote_then (rw disk at p) (wrote_then {x = colon ∷ []} q (rw rank at r))

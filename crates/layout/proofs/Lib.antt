@@ -1,5 +1,6 @@
 pub mod Puts
 pub mod Decimals
+pub mod Digits
 pub mod Opening
 pub mod Joined
 pub mod Words

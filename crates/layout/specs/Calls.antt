@@ -1,25 +1,23 @@
 -- The promises of the layout's calls.
-use Rattle.std.specs.Prelude.{◌≡◌, List, [], ◌∷◌, ◌++◌, ℕ, ◌+◌, ◌*◌, leb, length, drop}
+use Rattle.std.specs.Prelude.{◌≡◌, List, [], ◌∷◌, ◌++◌, ℕ, ◌+◌, ◌*◌, leb, length, drop, Result, Ok, Err}
 use Rattle.design.specs.declared.Shelf.{Shelf}
-use Rattle.design.specs.declared.Verdict.{Verdict}
-use Rattle.design.specs.declared.Verdict.TheVariants.{Accepted, Refused}
+use Rattle.design.specs.declared.Refusal.{Refusal}
 use Rattle.design.specs.declared.Refusal.TheVariants.{OtherBuffer}
-use Rattle.design.specs.Refusals.{Rule, number, first_broken}
+use Rattle.design.specs.Refusals.{Rule, Verdict, first_broken, answered}
 use Rattle.design.specs.Sheet.{opened}
 use Rattle.design.specs.Shelf.{shelf_rule}
 use Rattle.placement.specs.Layout.{layout_in, stripes}
 use Rattle.placement.specs.Placed.{range_rule}
 use Rattle.layout.specs.declared.Start.{Start}
-use Rattle.layout.specs.declared.Text.{Text}
 
--- ---- opening: 0, the shelf and its stripes, or the refusal's number, the empty shelf and none
+-- ---- opening: the shelf and its stripes, or the refusal
 
-unfoldable pub started_by : Verdict → Shelf → Start
-started_by Accepted h = record { number = 0; shelf = h; stripes = stripes (layout_in h) }
-started_by (Refused x) h = record { number = number x; shelf = h; stripes = 0 }
+unfoldable pub started_by : Result Shelf Refusal → Result Start Refusal
+started_by (Ok h) = Ok (record { shelf = h; stripes = stripes (layout_in h) })
+started_by (Err x) = Err x
 
-unfoldable pub started : List ℕ → Start
-started s = started_by (opened s).verdict (opened s).shelf
+unfoldable pub started : List ℕ → Result Start Refusal
+started s = started_by (opened s)
 
 -- ---- writing a text into the first bytes of a buffer
 
@@ -31,17 +29,13 @@ line_room = 256
 abbrev pub room_rule : ℕ → List ℕ → Rule
 room_rule n buffer = record { refusal = OtherBuffer; kept = leb (n * line_room) (length buffer) }
 
-unfoldable pub answer_by : Verdict → List ℕ → Text
-answer_by Accepted text = Text.Length (length text)
-answer_by (Refused x) text = Text.Refused x
-
 unfoldable pub buffer_by : Verdict → List ℕ → List ℕ → List ℕ
-buffer_by Accepted text buffer = text ++ drop (length text) buffer
-buffer_by (Refused x) text buffer = buffer
+buffer_by (Ok u) text buffer = text ++ drop (length text) buffer
+buffer_by (Err x) text buffer = buffer
 
 -- the text's length or the refusal, and the buffer after it
-pub record Written (rules : List Rule) (text buffer : List ℕ) (answer : Text) (after : List ℕ) : Type 0 where
-  pub answers : answer ≡ answer_by (first_broken rules) text
+pub record Written (rules : List Rule) (text buffer : List ℕ) (answer : Result ℕ Refusal) (after : List ℕ) : Type 0 where
+  pub answers : answer ≡ answered (first_broken rules) (length text)
   pub leaves : after ≡ buffer_by (first_broken rules) text buffer
 
 -- ---- the rules of each call

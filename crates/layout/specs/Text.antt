@@ -1,9 +1,9 @@
 -- The text of a layout (document 01, "The layout program"), as a list of bytes: numbers in decimal, words set apart by single
 -- spaces, and a line end after every line.
-use Rattle.std.specs.Prelude.{true, false, List, [], ◌∷◌, ◌++◌, ℕ, zero, suc, ◌+◌, ◌-◌, ◌/◌, ◌%◌, ◌^◌, ltb}
+use Rattle.std.specs.Prelude.{true, false, List, [], ◌∷◌, ◌++◌, ℕ, zero, suc, ◌+◌, ◌-◌, ◌/◌, ◌%◌, ◌^◌, ltb, Result}
+use Rattle.std.specs.Prelude.{Ok, Err}
+use Rattle.design.specs.declared.Refusal.{Refusal}
 use Rattle.design.specs.declared.Shelf.{Shelf}
-use Rattle.design.specs.declared.Verdict.{Verdict}
-use Rattle.design.specs.declared.Verdict.TheVariants.{Accepted, Refused}
 use Rattle.design.specs.Refusals.{number}
 use Rattle.design.specs.Sheet.{opened}
 use Rattle.placement.specs.declared.unchecked.Place.{Place}
@@ -84,10 +84,10 @@ refused_line n = refused_word ++ spaced (decimal n) ++ line_end ∷ []
 
 -- ---- all of it
 
-unfoldable pub text_by : Verdict → Shelf → List ℕ
-text_by Accepted h = first_line h ++ lines_from (layout_in h) 0 (stripes (layout_in h))
-text_by (Refused x) h = refused_line (number x)
+unfoldable pub text_by : Result Shelf Refusal → List ℕ
+text_by (Ok h) = first_line h ++ lines_from (layout_in h) 0 (stripes (layout_in h))
+text_by (Err x) = refused_line (number x)
 
 -- what the layout program prints for a sheet
 unfoldable pub layout_text : List ℕ → List ℕ
-layout_text s = text_by (opened s).verdict (opened s).shelf
+layout_text s = text_by (opened s)

@@ -1,154 +1,106 @@
 // The lines, written into a buffer that has room for them.
-ghost use Rattle.std.specs.Prelude.{◌≡◌, true, [], ◌∷◌, ◌+◌, ◌-◌, ◌*◌, ◌^◌, ◌≤◌, ◌<◌, length};
-ghost use Rattle.design.specs.Shelf.{is_shelf};
+ghost use Rattle.std.specs.Prelude.{◌≡◌, ◌+◌, ◌*◌, ◌^◌, ◌≤◌, ◌<◌, length};
+ghost use Rattle.placement.specs.Entries.{ranks_of};
 ghost use Rattle.placement.specs.Layout.{layout_in, stripes};
-ghost use Rattle.layout.specs.Text.{line_end, first_line, lines_from, refused_word, refused_line};
+ghost use Rattle.layout.specs.Text.{first_line, stripe_line, lines_from, refused_line};
 ghost use Rattle.layout.specs.Calls.{line_room};
-ghost use Rattle.layout.specs.inner.Steps.{Fits, Put, entry_word, data_words, ranked_line, Reckoned};
+ghost use Rattle.layout.specs.inner.Steps.{Fits, Wrote, Begins};
 
-use crate::digits;
-use design::{Shelf, Table};
-use placement::unchecked;
+use crate::pen::Pen;
+use design::Shelf;
 use placement::unchecked::PerEntry;
-
-fn line_end(out: &mut [u8], at: usize) -> usize
-    requires { at < length out.old }
-    ensures { Put out.old at (line_end ∷ []) result out.new }
-{
-    out[at] = b'\n';
-    at + 1
-}
-
-fn refused_word(out: &mut [u8])
-    requires { line_room ≤ length out.old }
-    ensures { Put out.old 0 refused_word 7 out.new }
-{
-    let word = [b'r', b'e', b'f', b'u', b's', b'e', b'd'];
-    for i in 0..7 {
-        out[i] = word[i];
-    }
-}
+use placement::{Checked, unchecked};
 
 pub fn refused(out: &mut [u8], number: usize) -> usize
     requires { line_room ≤ length out.old }
-    ensures { Put out.old 0 (refused_line number) result out.new }
+    ensures { Begins out.old (refused_line number) result out.new }
 {
-    refused_word(out);
-    let at = digits::spaced_number(out, 7, number);
-    line_end(out, at)
+    let mut pen = Pen::new(out);
+    pen.bytes(b"refused");
+    pen.spaced(number);
+    pen.line_end();
+    pen.at
 }
 
-// U, the bytes of a unit.
-fn unit_size(u: usize) -> usize
-    requires { u ≤ 12 }
-    ensures { result ≡ 2 ^ u }
+pub fn first(out: &mut [u8], checked: Checked) -> usize
+    requires { line_room ≤ length out.old }
+    ensures { Begins out.old (first_line checked.entry.shelf.now) result out.new }
 {
-    1 << u
-}
-
-pub fn first(out: &mut [u8], shelf: Shelf) -> usize
-    requires { (is_shelf shelf ≡ true) × (line_room ≤ length out.old) }
-    ensures { Put out.old 0 (first_line shelf) result out.new }
-{
-    let unit = unit_size(shelf.u);
-    let numbers = [shelf.k, shelf.b, shelf.r, shelf.lambda, shelf.T, unit];
-    let mut at = digits::number(out, 0, shelf.v);
-    for i in 0..6 {
-        at = digits::spaced_number(out, at, numbers[i]);
+    let Shelf {
+        v,
+        k,
+        b,
+        r,
+        lambda,
+        T,
+        u,
+        ..
+    } = *checked.shelf;
+    let mut pen = Pen::new(out);
+    pen.number(v);
+    for n in [k, b, r, lambda, T, 1 << u] {
+        pen.spaced(n);
     }
-    line_end(out, at)
+    pen.line_end();
+    pen.at
 }
 
-fn wide(entry: u8) -> usize
-    ensures { (result ≡ entry) × (entry < 256) }
-{
-    entry as usize
+// A shelf and the ranks of its entries, which are counted once: a line costs its own places only.
+#[derive(Drop)]
+pub struct Rows<'a> {
+    checked: Checked<'a>,
+    ranks: PerEntry,
+    ghost ranked: { ranks ≡ ranks_of checked.shelf.now.table (checked.shelf.now.b * checked.shelf.now.k) },
 }
 
-fn wider(rank: u16) -> usize
-    ensures { (result ≡ rank) × (rank < 65536) }
-{
-    rank as usize
-}
+impl<'a> Rows<'a> {
+    ghost use Rattle.layout.specs.inner.Entry.{entry_word};
 
-// The place of an entry of the table, `base` units being before those of its copy.
-fn place(
-    out: &mut [u8],
-    at: usize,
-    table: &Table,
-    ranks: &PerEntry,
-    base: usize,
-    entry: usize,
-) -> usize
-    requires fits { Fits out.old at (entry_word table.now ranks.now base entry) }
-    requires base_bound { (base < 2 ^ 40) × (entry < 2048) }
-    ensures { Put out.old at (entry_word table.now ranks.now base entry) result out.new }
-{
-    let middle = digits::spaced_number(out, at, wide(table[entry]));
-    out[middle] = b':';
-    digits::number(out, middle + 1, base + wider(ranks[entry]))
-}
-
-// The places of n data units of a tuple whose entries start at `row`.
-fn data(
-    out: &mut [u8],
-    at: usize,
-    table: &Table,
-    ranks: &PerEntry,
-    base: usize,
-    row: usize,
-    parity: usize,
-    n: usize,
-) -> usize
-    requires fits { Fits out.old at (data_words table.now ranks.now base row parity n) }
-    requires base_bound { (base < 2 ^ 40) × (row + n < 2048) }
-    ensures { Put out.old at (data_words table.now ranks.now base row parity n) result out.new }
-{
-    let mut next = at;
-    for j in 0..n {
-        let position = unchecked::position_of(parity, j);
-        next = place(out, next, table, ranks, base, row + position);
+    pub fn of(checked: Checked<'a>) -> Rows<'a>
+        ensures { result.checked.shelf.now ≡ checked.entry.shelf.now }
+    {
+        let ranks = checked.ranks();
+        Rows { checked, ranks }
     }
-    next
-}
 
-// The line of stripe s.
-fn line(
-    out: &mut [u8],
-    at: usize,
-    table: &Table,
-    ranks: &PerEntry,
-    k: usize,
-    b: usize,
-    r: usize,
-    s: usize,
-) -> usize
-    requires fits { Fits out.old at (ranked_line table.now ranks.now k b r s) }
-    requires reckoned { Reckoned k b r s }
-    ensures { Put out.old at (ranked_line table.now ranks.now k b r s) result out.new }
-{
-    let split = unchecked::split_of(k, b, s);
-    let row = split.tuple * k;
-    let base = split.full_table * r * k + split.copy * r;
-    let number = digits::number(out, at, s);
-    let parity = place(out, number, table, ranks, base, row + split.parity);
-    let end = data(out, parity, table, ranks, base, row, split.parity, k - 1);
-    line_end(out, end)
-}
-
-// The lines of n stripes: the ranks are counted once, and a line costs its own places only.
-pub fn lines(out: &mut [u8], shelf: Shelf, first: usize, n: usize) -> usize
-    requires { (is_shelf shelf ≡ true) × (first + n ≤ stripes (layout_in shelf)) × (n * line_room ≤ length out.old) }
-    ensures { Put out.old 0 (lines_from (layout_in shelf) first n) result out.new }
-{
-    let table = shelf.table;
-    let k = shelf.k;
-    let b = shelf.b;
-    let r = shelf.r;
-    let ranks = unchecked::ranks(&table, b * k);
-    let mut at: usize = 0;
-    for i in 0..n {
-        at = line(out, at, &table, &ranks, k, b, r, first + i);
+    // The place of an entry of the table, `base` units being before those of its copy.
+    fn place(&self, pen: &mut Pen, base: usize, entry: usize)
+        requires fits { Fits pen.old (entry_word self.now base entry) }
+        requires bounds { (base < 2 ^ 40) × (entry < 2048) }
+        ensures { Wrote pen.old (entry_word self.now base entry) pen.new }
+    {
+        pen.spaced(usize::from(self.checked.shelf.table[entry]));
+        pen.byte(b':');
+        pen.number(base + usize::from(self.ranks[entry]));
     }
-    at
+
+    // The line of stripe s.
+    fn line(&self, pen: &mut Pen, s: usize)
+        requires fits { Fits pen.old (stripe_line (layout_in self.now.checked.shelf.now) s) }
+        requires below { s < stripes (layout_in self.now.checked.shelf.now) }
+        ensures { Wrote pen.old (stripe_line (layout_in self.now.checked.shelf.now) s) pen.new }
+    {
+        let Shelf { k, b, r, .. } = *self.checked.shelf;
+        let split = unchecked::split_of(k, b, s);
+        let row = split.tuple * k;
+        let base = split.full_table * r * k + split.copy * r;
+        pen.number(s);
+        self.place(pen, base, row + split.parity);
+        for j in 0..k - 1 {
+            self.place(pen, base, row + unchecked::position_of(split.parity, j));
+        }
+        pen.line_end();
+    }
+
+    // The lines of n stripes.
+    pub fn lines(&self, out: &mut [u8], first: usize, n: usize) -> usize
+        requires { (first + n ≤ stripes (layout_in self.now.checked.shelf.now)) × (n * line_room ≤ length out.old) }
+        ensures { Begins out.old (lines_from (layout_in self.now.checked.shelf.now) first n) result out.new }
+    {
+        let mut pen = Pen::new(out);
+        for s in first..first + n {
+            self.line(&mut pen, s);
+        }
+        pen.at
+    }
 }

@@ -9,8 +9,8 @@ use native.Mathlib.Omega.{arith}
 use lib.Dec.{ltb, eqb}
 use lib.ListN.{length}
 use borrow.Author.Tests.{lt-ltb, ltb-true, eq-eqb, eqb-true, not-true}
+use Rattle.std.specs.Prelude.{Ok}
 use Rattle.design.specs.declared.Shelf.{Shelf}
-use Rattle.design.specs.declared.Verdict.TheVariants.{Accepted}
 use Rattle.design.specs.Refusals.{Rule, first_broken, number}
 use Rattle.design.specs.Loss.{is_whole}
 use Rattle.design.specs.Shelf.{is_shelf, shelf_rule}
@@ -26,34 +26,34 @@ use Rattle.parity.proofs.Cases.{cases}
 
 -- ---- rule after rule
 
-pub rule_kept : (x : Rule) (rules : List Rule) → (first_broken (x ∷ rules) ≡ Accepted) ↔ ((x.kept ≡ true) × (first_broken rules ≡ Accepted))
+pub rule_kept : (x : Rule) (rules : List Rule) → (first_broken (x ∷ rules) ≡ Ok tt) ↔ ((x.kept ≡ true) × (first_broken rules ≡ Ok tt))
 unfolding first_broken
 rule_kept x rules = (parts, λ p. rw p.0 p.1)
   where
-    parts : first_broken (x ∷ rules) ≡ Accepted → (x.kept ≡ true) × (first_broken rules ≡ Accepted)
+    parts : first_broken (x ∷ rules) ≡ Ok tt → (x.kept ≡ true) × (first_broken rules ≡ Ok tt)
     parts e = cases x.kept (λ t. (t, rw t at e)) (λ t. let z : ◌≡◌ {A = ℕ} 0 1 = cc (rw t at e) in absurd (omega arith))
 
 pub image_kept : (h : Shelf) (image : List ℕ) (rules : List Rule)
-    → (first_broken (shelf_rule h ∷ image_rule h (length image) ∷ rules) ≡ Accepted) ↔ (Held h image × (first_broken rules ≡ Accepted))
+    → (first_broken (shelf_rule h ∷ image_rule h (length image) ∷ rules) ≡ Ok tt) ↔ (Held h image × (first_broken rules ≡ Ok tt))
 image_kept h image rules = (parts, whole)
   where
-    parts : first_broken (shelf_rule h ∷ image_rule h (length image) ∷ rules) ≡ Accepted → Held h image × (first_broken rules ≡ Accepted)
+    parts : first_broken (shelf_rule h ∷ image_rule h (length image) ∷ rules) ≡ Ok tt → Held h image × (first_broken rules ≡ Ok tt)
     parts e =
         let p = (rule_kept (shelf_rule h) (image_rule h (length image) ∷ rules)).0 e in
         let q = (rule_kept (image_rule h (length image)) rules).0 p.1 in
         (record { shelf = p.0; size = eqb-true _ _ q.0 }, q.1)
 
-    whole : Held h image × (first_broken rules ≡ Accepted) → first_broken (shelf_rule h ∷ image_rule h (length image) ∷ rules) ≡ Accepted
+    whole : Held h image × (first_broken rules ≡ Ok tt) → first_broken (shelf_rule h ∷ image_rule h (length image) ∷ rules) ≡ Ok tt
     whole p =
         (rule_kept (shelf_rule h) (image_rule h (length image) ∷ rules)).1
         (p.0.shelf, (rule_kept (image_rule h (length image)) rules).1 (eq-eqb _ _ p.0.size, p.1))
 
 -- the last two rules of a list, and the last one
-last_kept : (x : Rule) → (first_broken (x ∷ []) ≡ Accepted) ↔ (x.kept ≡ true)
+last_kept : (x : Rule) → (first_broken (x ∷ []) ≡ Ok tt) ↔ (x.kept ≡ true)
 unfolding first_broken
 last_kept x = (λ e. ((rule_kept x []).0 e).0, λ e. (rule_kept x []).1 (e, refl))
 
-two_kept : (x y : Rule) → (first_broken (x ∷ y ∷ []) ≡ Accepted) ↔ ((x.kept ≡ true) × (y.kept ≡ true))
+two_kept : (x y : Rule) → (first_broken (x ∷ y ∷ []) ≡ Ok tt) ↔ ((x.kept ≡ true) × (y.kept ≡ true))
 two_kept x y = (
   λ e. let p = (rule_kept x (y ∷ [])).0 e in (p.0, (last_kept y).0 p.1),
   λ p. (rule_kept x (y ∷ [])).1 (p.0, (last_kept y).1 p.1),
@@ -61,13 +61,13 @@ two_kept x y = (
 
 -- the rules of an image, and one or two more that are kept exactly when P and Q hold
 module _ (h : Shelf) (image : List ℕ) (x : Rule) {P : Type 0} (p : (x.kept ≡ true) ↔ P) where
-  image_and-one : (first_broken (shelf_rule h ∷ image_rule h (length image) ∷ x ∷ []) ≡ Accepted) ↔ (Held h image × P)
+  image_and-one : (first_broken (shelf_rule h ∷ image_rule h (length image) ∷ x ∷ []) ≡ Ok tt) ↔ (Held h image × P)
   image_and-one =
       let at = image_kept h image (x ∷ []) in
       let kept = last_kept x in
       (λ e. let q = at.0 e in (q.0, p.0 (kept.0 q.1)), λ q. at.1 (q.0, kept.1 (p.1 q.1)))
 
-  image_and-two : (y : Rule) {Q : Type 0} → (y.kept ≡ true) ↔ Q → (first_broken (shelf_rule h ∷ image_rule h (length image) ∷ x ∷ y ∷ []) ≡ Accepted) ↔ (Held h image × P × Q)
+  image_and-two : (y : Rule) {Q : Type 0} → (y.kept ≡ true) ↔ Q → (first_broken (shelf_rule h ∷ image_rule h (length image) ∷ x ∷ y ∷ []) ≡ Ok tt) ↔ (Held h image × P × Q)
   image_and-two y q =
       let at = image_kept h image (x ∷ y ∷ []) in
       let kept = two_kept x y in (
@@ -93,7 +93,7 @@ pub record WholeCall (h : Shelf) (image : List ℕ) : Type 0 where
   pub whole : is_whole h.loss ≡ true
 
 module _ (h : Shelf) (image : List ℕ) where
-  pub whole_accepted : (first_broken (whole_rules h (length image)) ≡ Accepted) ↔ WholeCall h image
+  pub whole_accepted : (first_broken (whole_rules h (length image)) ≡ Ok tt) ↔ WholeCall h image
   unfolding whole_rules
   whole_accepted =
       let at = image_and-one h image (whole_rule h) (λ e. e, λ e. e) in
@@ -109,7 +109,7 @@ pub record LostCall (h : Shelf) (image : List ℕ) : Type 0 where
   pub stored : Held h image
   pub lost : is_whole h.loss ≡ false
 
-pub rebuild_accepted : (h : Shelf) (image : List ℕ) → (first_broken (rebuild_rules h (length image)) ≡ Accepted) ↔ LostCall h image
+pub rebuild_accepted : (h : Shelf) (image : List ℕ) → (first_broken (rebuild_rules h (length image)) ≡ Ok tt) ↔ LostCall h image
 unfolding rebuild_rules
 rebuild_accepted h image =
     let at = image_and-one h image (lost_rule h) (not-true _, ap not) in
@@ -126,7 +126,7 @@ pub record LoseCall (h : Shelf) (d : ℕ) : Type 0 where
   pub disk : d < h.v
   pub whole : is_whole h.loss ≡ true
 
-pub lose_accepted : (h : Shelf) (d : ℕ) → (first_broken (lose_rules h d) ≡ Accepted) ↔ LoseCall h d
+pub lose_accepted : (h : Shelf) (d : ℕ) → (first_broken (lose_rules h d) ≡ Ok tt) ↔ LoseCall h d
 unfolding lose_rules
 lose_accepted h d =
     let at = rule_kept (shelf_rule h) (disk_rule h d ∷ whole_rule h ∷ []) in
@@ -142,7 +142,7 @@ unfolding unit_rules rising number
 unit_rise h n a m = refl
 
 module _ (h : Shelf) (image : List ℕ) (a : ℕ) (unit : List ℕ) where
-  pub unit_accepted : (first_broken (unit_rules h (length image) a (length unit)) ≡ Accepted) ↔ UnitCall h image a unit
+  pub unit_accepted : (first_broken (unit_rules h (length image) a (length unit)) ≡ Ok tt) ↔ UnitCall h image a unit
   unfolding unit_rules
   unit_accepted =
       let at = image_and-two h image (address_rule h a) (below_exactly a _) (buffer_rule h (length unit) 1) (exactly_so_long (length unit) (1 * unit_size h)) in (
@@ -164,7 +164,7 @@ pub stripe_rise : (h : Shelf) (n s m : ℕ) → rising 0 (stripe_rules h n s m) 
 unfolding stripe_rules rising number
 stripe_rise h n s m = refl
 
-pub stripe_write_accepted : (h : Shelf) (image : List ℕ) (s : ℕ) (buffer : List ℕ) → (first_broken (stripe_rules h (length image) s (length buffer)) ≡ Accepted) ↔ StripeCall h image s buffer
+pub stripe_write_accepted : (h : Shelf) (image : List ℕ) (s : ℕ) (buffer : List ℕ) → (first_broken (stripe_rules h (length image) s (length buffer)) ≡ Ok tt) ↔ StripeCall h image s buffer
 unfolding stripe_rules
 stripe_write_accepted h image s buffer =
     let at = image_and-two h image (stripe_rule h s) (below_exactly s _) (buffer_rule h (length buffer) (h.k - 1)) (exactly_so_long _ _) in
@@ -182,7 +182,7 @@ pub record PlaceCall (h : Shelf) (image : List ℕ) (d o : ℕ) : Type 0 where
   pub offset : o < depth h
   pub here : present h (d * depth h + o) ≡ true
 
-pub show_place_accepted : (h : Shelf) (image : List ℕ) (d o : ℕ) → (first_broken (place_rules h (length image) d o) ≡ Accepted) ↔ PlaceCall h image d o
+pub show_place_accepted : (h : Shelf) (image : List ℕ) (d o : ℕ) → (first_broken (place_rules h (length image) d o) ≡ Ok tt) ↔ PlaceCall h image d o
 unfolding place_rules
 show_place_accepted h image d o =
     let at = image_and-two h image (place_rule h d o) (λ e. e, λ e. e) (present_rule h (d * depth h + o)) (λ e. e, λ e. e) in (

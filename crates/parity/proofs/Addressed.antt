@@ -1,6 +1,6 @@
 -- A read or a write of an address that has passed its rules: from where the address stands, the steps of the code come to what is
 -- promised. Assumes nothing.
-use mathlib.Core.Path.{◌≡◌, sym, ap, ap₂, ◌∙◌}
+use mathlib.Core.Path.{◌≡◌, sym, ap, ◌∙◌}
 use mathlib.Core.Logic.{◌≢◌}
 use mathlib.Core.Bool.{true, false}
 use mathlib.Core.List.{List}
@@ -8,22 +8,17 @@ use Prim.Native.Nat.{ℕ, ◌+◌, ◌-◌, ◌*◌, ◌≤◌, ◌<◌}
 use native.Mathlib.Omega.{arith}
 use lib.ListN.{length}
 use Rattle.design.specs.declared.Shelf.{Shelf}
-use Rattle.design.specs.declared.Verdict.TheVariants.{Accepted}
 use Rattle.placement.specs.Layout.{layout_in, stripe_of, j_of}
 use Rattle.parity.specs.declared.Cost.{Cost}
-use Rattle.parity.specs.declared.Shape.{Shape}
 use Rattle.parity.specs.declared.storing.Standing.{Standing}
-use Rattle.parity.specs.Units.{zeros, unit_at, xor_u, xor_sum, put}
+use Rattle.parity.specs.Units.{unit_at, xor_u, xor_sum, put}
 use Rattle.parity.specs.Stripe.{unit_size, unit_in, units, present, cell, others}
-use Rattle.parity.specs.Calls.{by, costs, fetched, read_cost, new_parity, unit_written, write_reads, write_writes}
-use Rattle.parity.specs.inner.Stores.{Ranked, put_unit}
-use Rattle.parity.specs.inner.Sums.{Placed, number_by, sum_with}
-use Rattle.parity.specs.inner.Shapes.{shape_in, standing_in, DataCall, UnitCall, resealed}
+use Rattle.parity.specs.Calls.{by, cost, fetched, read_cost, new_parity, unit_written, write_reads, write_writes}
+use Rattle.parity.specs.inner.Stores.{put_unit}
+use Rattle.parity.specs.inner.Shapes.{standing_in, DataCall, UnitCall, resealed}
 use Rattle.parity.proofs.Image.{unit_fits}
 use Rattle.parity.proofs.Home.{unit-lt, beside_absent}
 use Rattle.parity.proofs.Accepted.{call_stripe-lt, call_data_lt}
-use Rattle.parity.proofs.Places.{number-unit, sum_cells, sum-others}
-use Rattle.parity.proofs.Prepared.{units-placed}
 use Rattle.parity.proofs.UnitStores.{write_both, write_data, write_parity}
 
 module _ {h : Shelf} {image : List ℕ} {a : ℕ} {unit : List ℕ} (w : UnitCall h image a unit) {at : Standing} (stands : at ≡ standing_in h a) where
@@ -72,7 +67,7 @@ module _ {h : Shelf} {image : List ℕ} {a : ℕ} {unit : List ℕ} (w : UnitCal
 
   pub data_call : DataCall h image at.stripe at.index unit
   unfolding standing_in
-  data_call = rw stands (record { stored = w.stored; stripe = call_stripe-lt w; index = call_data_lt w; exact = w.exact })
+  data_call = rw stands (record { size = w.stored.size; stripe = call_stripe-lt w; index = call_data_lt w; exact = w.exact })
 
   -- ---- a read
 
@@ -95,7 +90,7 @@ module _ {h : Shelf} {image : List ℕ} {a : ℕ} {unit : List ℕ} (w : UnitCal
   -- what the code answers and leaves is what is promised
   abbrev Stored : List ℕ → ℕ → ℕ → Type 0
   Stored after r w =
-      (◌≡◌ {A = Cost} (record { verdict = Accepted; read = r; written = w }) (costs Accepted (write_reads h s j) (write_writes h s j))) × (after ≡ unit_written h image s j unit)
+      (◌≡◌ {A = Cost} (cost r w) (cost (write_reads h s j) (write_writes h s j))) × (after ≡ unit_written h image s j unit)
 
   pub write_parity-lost : {after : List ℕ} → present h at.parity ≡ false → after ≡ put_unit (length unit) image at.unit unit → Stored after 0 1
   unfolding by write_reads write_writes
@@ -131,23 +126,3 @@ module _ {h : Shelf} {image : List ℕ} {a : ℕ} {unit : List ℕ} (w : UnitCal
             ∙ ap (λ (x : List ℕ). put_unit (unit_size h) (put_unit (unit_size h) image parity x) (unit_in h s j) unit) (sym sum)
             ∙ write_both h w.stored.shelf image w.stored.size s j unit (call_stripe-lt w) (call_data_lt w) w.exact p q,
       )
-
--- ---- beside a lost disk, with the ranks of the table and the shape of the shelf
-
-module _ {h : Shelf} {image : List ℕ} {s j : ℕ} {unit : List ℕ} (w : DataCall h image s j unit) (ranks : List ℕ) {shape : Shape} (ranked : Ranked h.table (h.b * h.k) ranks) (shaped : shape ≡ shape_in h) where
-  pub sum_asks : Placed h.table ranks shape s (length image) × (length unit ≡ shape.size)
-  sum_asks = (units-placed (record { held = w.stored; ranked = ranked; shaped = shaped }) w.stripe, rw shaped w.exact)
-
-  pub gathered : {after : List ℕ} → after ≡ sum_with h.table ranks shape image s j (zeros shape.size) shape.k → after ≡ others h image s j
-  gathered summed = (rw shaped at summed) ∙ sum-others h w.stored.shelf ranks ranked s w.stripe image j
-
-  pub sealed : {after : List ℕ} → after ≡ put_unit shape.size image (number_by h.table ranks shape s (shape.k - 1)) (sum_with h.table ranks shape image s j unit (shape.k - 1))
-      → after ≡ resealed h image s j unit
-  unfolding resealed
-  sealed {after} stored =
-      let ok = w.stored.shelf in
-      let is : after ≡ put_unit (unit_size h) image (number_by h.table ranks (shape_in h) s (h.k - 1)) (sum_with h.table ranks (shape_in h) image s j unit (h.k - 1)) = rw shaped at stored in
-      is
-      ∙ ap₂ (λ (n : ℕ) (x : List ℕ). put_unit (unit_size h) image n x)
-      (number-unit h ok ranks ranked s w.stripe (h.k - 1) (omega (arith, w.index)))
-      (sum_cells h ok ranks ranked s w.stripe image j unit (h.k - 1) (omega arith))

@@ -46,12 +46,12 @@ pub mod PromisedMemory
 pub mod Writing
 pub mod Summing
 pub mod Rest
+pub mod Chunks
 pub mod StripeSums
 pub mod ByBlocks
 pub mod Places
 pub mod Addressed
 pub mod ReadCounts
 pub mod LostUnits
-pub mod Prepared
 pub mod StripeTurns
 pub mod Searching

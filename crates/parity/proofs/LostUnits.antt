@@ -21,18 +21,14 @@ use Rattle.placement.proofs.Even.{Even, even_shelf}
 use Rattle.placement.proofs.Row.{parity_row}
 use Rattle.placement.proofs.Undo.{row_there}
 use Rattle.placement.proofs.Flat.{some_left, stripe-found, position-found}
-use Rattle.parity.specs.declared.Shape.{Shape}
-use Rattle.parity.specs.Units.{zeros, put}
-use Rattle.parity.specs.Stripe.{unit_size, depth, units, image_size, unit_in, disk_at, stripe_here, index_here, present, others}
-use Rattle.parity.specs.inner.Stores.{Ranked, put_unit}
-use Rattle.parity.specs.inner.Sums.{Placed, number_by, sum_with}
-use Rattle.parity.specs.inner.Shapes.{shape_in}
+use Rattle.parity.specs.Units.{put}
+use Rattle.parity.specs.Stripe.{depth, units, image_size, unit_in, disk_at, stripe_here, index_here, present, others}
+use Rattle.parity.specs.inner.Shapes.{renewed}
 use Rattle.parity.specs.Calls.{between}
 use Rattle.parity.proofs.Cases.{cases, below_next}
 use Rattle.parity.proofs.Ready.{entries_fit}
 use Rattle.parity.proofs.Present.{present_is}
 use Rattle.parity.proofs.Home.{stripe_here-lt, index_here-lt, unit_home}
-use Rattle.parity.proofs.Places.{number-unit, shelf-placed, sum-others}
 use Rattle.parity.proofs.Meets.{lost_below}
 use Rattle.parity.proofs.Restores.{Restored, restored_none, restored_test, restored-put}
 
@@ -56,15 +52,13 @@ index_at k parity p = cond (eqb p parity) (k - 1) (cond (ltb p parity) p (p - 1)
 abbrev pub index_for : Shelf → List ℕ → ℕ → ℕ
 index_for h entries o = index_at h.k (h.k - 1 - o / h.r % h.k) (get_or entries (o % h.r) 0 % h.k)
 
--- what it has before the first offset: the ranks of the table's entries, the entries of the lost disk and the shelf's numbers
-pub record Prepared (h : Shelf) (lost : ℕ) (ranks entries : List ℕ) (shape : Shape) : Type 0 where
+-- what it has before the first offset: the entries of the lost disk
+pub record Prepared (h : Shelf) (lost : ℕ) (entries : List ℕ) : Type 0 where
   pub ok : is_shelf h ≡ true
   pub gone : is_lost h lost ≡ true
-  pub ranked : Ranked h.table (h.b * h.k) ranks
   pub listed : Listed h lost entries
-  pub shape_is : shape ≡ shape_in h
 
-module _ (h : Shelf) {lost : ℕ} {ranks entries : List ℕ} {shape : Shape} (P : Prepared h lost ranks entries shape) (o : ℕ) where
+module _ (h : Shelf) {lost : ℕ} {entries : List ℕ} (P : Prepared h lost entries) (o : ℕ) where
   E : Even (layout_in h)
   E = even_shelf h P.ok
 
@@ -139,35 +133,22 @@ module _ (h : Shelf) {lost : ℕ} {ranks entries : List ℕ} {shape : Shape} (P 
     index_below : index_for h entries o < h.k
     index_below = rw (← index_is) (index_here-lt h P.ok (unit_on h lost o) unit-lt)
 
-    pub index_lt : {i : ℕ} → i ≡ index_for h entries o → i < shape.k
-    index_lt e = rw (P.shape_is, e) index_below
+    pub index_lt : {i : ℕ} → i ≡ index_for h entries o → i < h.k
+    index_lt e = rw e index_below
 
-    -- ---- by the numbers that the code takes
-
-    pub offset_placed : (now : List ℕ) → length now ≡ image_size h → Placed h.table ranks shape (stripe_for h entries o) (length now)
-    offset_placed now len = rw P.shape_is (shelf-placed h P.ok ranks P.ranked (stripe_for h entries o) stripe-lt now len)
-
-    number_is : number_by h.table ranks (shape_in h) (stripe_for h entries o) (index_for h entries o) ≡ unit_on h lost o
-    number_is =
-        number-unit h P.ok ranks P.ranked (stripe_for h entries o) stripe-lt (index_for h entries o) index_below
-        ∙ ap₂ (unit_in h) (sym stripe_is) (sym index_is)
-        ∙ unit_home h P.ok (unit_on h lost o) unit-lt
-
-    sum_is : (now : List ℕ) → sum_with h.table ranks (shape_in h) now (stripe_for h entries o) (index_for h entries o) (zeros (unit_size h)) h.k
-        ≡ others h now (stripe_here h (unit_on h lost o)) (index_here h (unit_on h lost o))
-    sum_is now =
-        sum-others h P.ok ranks P.ranked (stripe_for h entries o) stripe-lt now (index_for h entries o)
-        ∙ ap₂ (others h now) (sym stripe_is) (sym index_is)
+    -- its number is that of the unit at this offset
+    number_is : unit_in h (stripe_for h entries o) (index_for h entries o) ≡ unit_on h lost o
+    number_is = ap₂ (unit_in h) (sym stripe_is) (sym index_is) ∙ unit_home h P.ok (unit_on h lost o) unit-lt
 
     -- the unit at this offset is restored too
     pub restored_next : (image now after : List ℕ) {from i : ℕ} → length image ≡ image_size h → from ≤ o → Restored h image (between h from o) now
         → i ≡ index_for h entries o
-        → after ≡ put_unit shape.size now (number_by h.table ranks shape (stripe_for h entries o) i) (sum_with h.table ranks shape now (stripe_for h entries o) i (zeros shape.size) shape.k)
+        → after ≡ renewed h now (stripe_for h entries o) i (others h now (stripe_for h entries o) i)
         → Restored h image (between h from (o + 1)) after
     restored_next image now after {from} len past R e stored =
-        rw (stored, P.shape_is, e)
+        rw (stored, e)
         (restored_test h P.ok image len _ (between h from (o + 1)) _ (λ n hn g. between_next past n g)
-        (rw (number_is, sum_is now) (restored-put h P.ok image len (between h from o) now R (unit_on h lost o) unit-lt unit_gone)))
+        (rw (number_is, ← stripe_is, ← index_is) (restored-put h P.ok image len (between h from o) now R (unit_on h lost o) unit-lt unit_gone)))
 
 -- ---- before the first offset
 

@@ -6,15 +6,16 @@ use mathlib.Core.List.{List}
 use Prim.Native.Nat.{ℕ}
 use native.Mathlib.Omega.{arith}
 use lib.ListN.{length}
+use Rattle.std.specs.Prelude.{Ok, Result}
+use Rattle.design.specs.declared.Refusal.{Refusal}
 use Rattle.design.specs.declared.Shelf.{Shelf}
-use Rattle.design.specs.declared.Verdict.{Verdict}
-use Rattle.design.specs.declared.Verdict.TheVariants.{Accepted}
+use Rattle.design.specs.Refusals.{Verdict, verdict}
 use Rattle.design.specs.Count.{count}
 use Rattle.placement.specs.Layout.{layout_in, stripe_of, j_of}
 use Rattle.design.specs.Refusals.{first_broken}
 use Rattle.parity.specs.declared.Cost.{Cost}
 use Rattle.parity.specs.Stripe.{units}
-use Rattle.parity.specs.Calls.{by, costs, unit_rules, read_cost, fetched, ReadOut}
+use Rattle.parity.specs.Calls.{by, costs, unit_rules, read_cost, fetched, ReadOut, cost_of}
 use Rattle.parity.proofs.By.{by_same, same_verdict, cost_accepted}
 use Rattle.parity.proofs.Accepted.{unit_accepted, call_stripe-lt, call_data_lt}
 use Rattle.parity.proofs.Sets.{read_set, read_size}
@@ -31,15 +32,15 @@ module _ (h : Shelf) (a : ℕ) (buffer : List ℕ) where
   abbrev j : ℕ
   j = j_of (layout_in h) a
 
-  pub read_counts : (image : List ℕ) (answer : Cost) (after : List ℕ) → ReadOut h image a buffer answer after → answer.verdict ≡ Accepted
-      → (answer.read ≡ count (read_at h a) (units h)) × (answer.written ≡ 0)
+  pub read_counts : (image : List ℕ) (answer : Result Cost Refusal) (after : List ℕ) → ReadOut h image a buffer answer after → verdict answer ≡ Ok tt
+      → ((cost_of answer).read ≡ count (read_at h a) (units h)) × ((cost_of answer).written ≡ 0)
   read_counts image answer after P e =
       let c = cost_accepted (read_cost h s j) 0 P.answers e in
       let w = (unit_accepted h image a buffer).0 c.accepted in
       let l = call_data_lt w in
       (c.read ∙ sym (read_size h w.stored.shelf s (call_stripe-lt w) j (omega arith)), c.written)
 
-  pub read_same : (x y : List ℕ) (answer answer' : Cost) (after after' : List ℕ) → ReadOut h x a buffer answer after → ReadOut h y a buffer answer' after'
+  pub read_same : (x y : List ℕ) (answer answer' : Result Cost Refusal) (after after' : List ℕ) → ReadOut h x a buffer answer after → ReadOut h y a buffer answer' after'
       → length x ≡ length y → Agree h (read_at h a) x y → (answer ≡ answer') × (after ≡ after')
   unfolding unit_rules
   read_same x y answer answer' after after' P Q len same =
@@ -51,7 +52,7 @@ module _ (h : Shelf) (a : ℕ) (buffer : List ℕ) where
             ∙ sym Q.leaves,
       )
     where
-      given : first_broken (unit_rules h (length x) a (length buffer)) ≡ Accepted → fetched h x s j ≡ fetched h y s j
+      given : first_broken (unit_rules h (length x) a (length buffer)) ≡ Ok tt → fetched h x s j ≡ fetched h y s j
       given e =
           let w = (unit_accepted h x a buffer).0 e in
           let l = call_data_lt w in

@@ -5,16 +5,17 @@ use mathlib.Core.Bool.{Bool, true}
 use mathlib.Core.List.{List}
 use Prim.Native.Nat.{ℕ, ◌-◌, ◌<◌}
 use lib.ListN.{length}
+use Rattle.std.specs.Prelude.{Ok, Result}
+use Rattle.design.specs.declared.Refusal.{Refusal}
 use Rattle.design.specs.declared.Shelf.{Shelf}
-use Rattle.design.specs.declared.Verdict.{Verdict}
-use Rattle.design.specs.declared.Verdict.TheVariants.{Accepted}
+use Rattle.design.specs.Refusals.{Verdict, verdict}
 use Rattle.design.specs.Count.{count}
 use Rattle.placement.specs.Layout.{layout_in, stripes, stripe_of, j_of}
 use Rattle.design.specs.Refusals.{first_broken}
 use Rattle.parity.specs.declared.Cost.{Cost}
 use Rattle.parity.specs.Units.{xor_sum}
 use Rattle.parity.specs.Stripe.{unit_size, units, unit_in, present, cell}
-use Rattle.parity.specs.Calls.{costs, unit_rules, write_reads, write_writes, unit_written, Wrote}
+use Rattle.parity.specs.Calls.{costs, unit_rules, write_reads, write_writes, unit_written, Wrote, cost_of}
 use Rattle.parity.specs.inner.Shapes.{UnitCall}
 use Rattle.parity.proofs.By.{by_accepted, same_verdict, Costs, cost_accepted}
 use Rattle.parity.proofs.Accepted.{unit_accepted, call_stripe-lt, call_data_lt}
@@ -37,14 +38,14 @@ module _ (h : Shelf) (a : ℕ) (unit : List ℕ) where
   abbrev j : ℕ
   j = j_of (layout_in h) a
 
-  module _ (image : List ℕ) (answer : Cost) (after : List ℕ) (P : Wrote h image a unit answer after) (e : answer.verdict ≡ Accepted) where
+  module _ (image : List ℕ) (answer : Result Cost Refusal) (after : List ℕ) (P : Wrote h image a unit answer after) (e : verdict answer ≡ Ok tt) where
     c : Costs (first_broken (unit_rules h (length image) a (length unit))) (write_reads h s j) (write_writes h s j) answer
     c = cost_accepted (write_reads h s j) (write_writes h s j) P.answers e
 
     pub write_call : UnitCall h image a unit
     write_call = (unit_accepted h image a unit).0 c.accepted
 
-    pub write_counts : (answer.read ≡ count (taken_at h a) (units h)) × (answer.written ≡ count (written_at h a) (units h))
+    pub write_counts : ((cost_of answer).read ≡ count (taken_at h a) (units h)) × ((cost_of answer).written ≡ count (written_at h a) (units h))
     write_counts =
         let w = write_call in
         let hs = call_stripe-lt w in
@@ -68,15 +69,15 @@ module _ (h : Shelf) (a : ℕ) (unit : List ℕ) where
         rw write_leaves
         (unit_write_keeps h w.stored.shelf image w.stored.size s j unit (call_stripe-lt w) (call_data_lt w) w.exact p q t ht)
 
-  pub write_same : (x y : List ℕ) (answer answer' : Cost) (after after' : List ℕ) → Wrote h x a unit answer after → Wrote h y a unit answer' after'
-      → length x ≡ length y → Agree h (taken_at h a) x y → (answer ≡ answer') × (answer.verdict ≡ Accepted → Agree h (written_at h a) after after')
+  pub write_same : (x y : List ℕ) (answer answer' : Result Cost Refusal) (after after' : List ℕ) → Wrote h x a unit answer after → Wrote h y a unit answer' after'
+      → length x ≡ length y → Agree h (taken_at h a) x y → (answer ≡ answer') × (verdict answer ≡ Ok tt → Agree h (written_at h a) after after')
   unfolding unit_rules
   write_same x y answer answer' after after' P Q len same =
       let v : first_broken (unit_rules h (length x) a (length unit)) ≡ first_broken (unit_rules h (length y) a (length unit)) = same_verdict h x y _ len in
       let one : answer ≡ answer' = P.answers ∙ ap (λ (v : Verdict). costs v (write_reads h s j) (write_writes h s j)) v ∙ sym Q.answers in
-      (one, λ e. written e (sym (ap (λ (c : Cost). c.verdict) one) ∙ e))
+      (one, λ e. written e (sym (ap verdict one) ∙ e))
     where
-      written : answer.verdict ≡ Accepted → answer'.verdict ≡ Accepted → Agree h (written_at h a) after after'
+      written : verdict answer ≡ Ok tt → verdict answer' ≡ Ok tt → Agree h (written_at h a) after after'
       written e e' =
           let u = write_call x answer after P e in
           rw (write_leaves x answer after P e, write_leaves y answer' after' Q e')

@@ -1,35 +1,18 @@
--- The search for wrong stripes takes one stripe after another: its exclusive-or stands in the first bytes of a row, and the wrong ones
--- before it are counted. Assumes nothing.
+-- The search for wrong stripes takes one stripe after another: the wrong ones before it are counted. Assumes nothing.
 use mathlib.Core.Path.{◌≡◌, refl, sym, ap, ◌∙◌}
 use mathlib.Core.Bool.{true, false, not}
-use mathlib.Core.List.{List, ◌++◌}
+use mathlib.Core.List.{List}
 use Prim.Native.Nat.{ℕ, ◌+◌, ◌≤◌, ◌<◌}
 use native.Mathlib.Nat.{le_antisymm}
 use native.Mathlib.Numerals.{add-one}
 use native.Mathlib.Omega.{arith}
-use lib.ListN.{length, take, drop, length-append, length-drop}
-use lib.Seq.{take_at}
 use Rattle.design.specs.declared.Shelf.{Shelf}
 use Rattle.design.specs.Count.{count}
 use Rattle.design.proofs.Counting.{count_true, count_false, count-le}
 use Rattle.placement.specs.Layout.{layout_in, stripes}
-use Rattle.parity.specs.declared.Shape.{Shape}
-use Rattle.parity.specs.Units.{zeros, is_zero}
-use Rattle.parity.specs.Stripe.{wrong}
-use Rattle.parity.specs.inner.Sums.{sum_with}
-use Rattle.parity.proofs.Places.{sum-whole}
-use Rattle.parity.proofs.Prepared.{Prepared}
-
--- ---- a row whose first n bytes are replaced
-
-module _ (n : ℕ) (row x : List ℕ) (fits : n ≤ length row) (size : length x ≡ n) where
-  pub front_size : length (x ++ drop n row) ≡ length row
-  front_size = omega (arith, length-append x (drop n row), length-drop n row, fits, size)
-
-  pub front_is : take n (x ++ drop n row) ≡ x
-  front_is = take_at x (drop n row) n size
-
--- ---- the count
+use Rattle.parity.specs.Units.{is_zero}
+use Rattle.parity.specs.Stripe.{others, wrong}
+use Rattle.parity.proofs.Places.{others-whole}
 
 -- the wrong stripes before s are counted
 pub record Searched (h : Shelf) (image : List ℕ) (s found : ℕ) : Type 0 where
@@ -47,11 +30,11 @@ module _ {h : Shelf} {image : List ℕ} {s found : ℕ} (S : Searched h image s 
   pub searched_all : stripes (layout_in h) ≤ s → found ≡ count (wrong h image) (stripes (layout_in h))
   searched_all l = S.counted ∙ ap (count (wrong h image)) (le_antisymm S.below l)
 
-  module _ {ranks : List ℕ} {shape : Shape} (p : Prepared h image ranks shape) (hs : s < stripes (layout_in h)) {x : List ℕ} (e : x ≡ sum_with h.table ranks shape image s h.k (zeros shape.size) shape.k) where
+  module _ (hs : s < stripes (layout_in h)) {x : List ℕ} (e : x ≡ others h image s h.k) where
     -- the exclusive-or of the whole stripe says whether it is wrong
     wrong_is : not (is_zero x) ≡ wrong h image s
     unfolding wrong
-    wrong_is = ap (λ (l : List ℕ). not (is_zero l)) (e ∙ rw p.shaped (sum-whole h p.held.shelf ranks p.ranked s hs image _))
+    wrong_is = ap (λ (l : List ℕ). not (is_zero l)) (e ∙ others-whole h image s)
 
     pub searched_wrong : not (is_zero x) ≡ true → Searched h image (s + 1) (found + 1)
     searched_wrong t =

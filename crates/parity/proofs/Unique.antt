@@ -2,12 +2,12 @@
 use mathlib.Core.Path.{◌≡◌, sym, ◌∙◌}
 use mathlib.Core.List.{List}
 use Prim.Native.Nat.{ℕ}
+use Rattle.std.specs.Prelude.{Result}
+use Rattle.design.specs.declared.Refusal.{Refusal}
 use Rattle.design.specs.declared.Shelf.{Shelf}
-use Rattle.design.specs.declared.Verdict.{Verdict}
+use Rattle.design.specs.Refusals.{Verdict}
 use Rattle.parity.specs.declared.Cost.{Cost}
-use Rattle.parity.specs.declared.Losing.{Losing}
 use Rattle.parity.specs.declared.Rebuilding.{Rebuilding}
-use Rattle.parity.specs.declared.Scrubbing.{Scrubbing}
 use Rattle.parity.specs.Calls.{Answered, Blanked, ReadOut, Wrote, WroteStripe, lost, Rebuilt, scrubbed, place_shown, address_shown}
 
 -- of every call that answers and leaves bytes
@@ -19,10 +19,10 @@ module _ (h : Shelf) (image : List ℕ) where
   pub blanked_unique : (r r' : Verdict) (after after' : List ℕ) → Blanked h image r after → Blanked h image r' after' → (r ≡ r') × (after ≡ after')
   blanked_unique r r' after after' = answered_unique
 
-  pub rebuilt_unique : (r r' : Rebuilding) (after after' : List ℕ) → Rebuilt h image r after → Rebuilt h image r' after' → (r ≡ r') × (after ≡ after')
+  pub rebuilt_unique : (r r' : Result Rebuilding Refusal) (after after' : List ℕ) → Rebuilt h image r after → Rebuilt h image r' after' → (r ≡ r') × (after ≡ after')
   rebuilt_unique r r' after after' = answered_unique
 
-  pub scrubbed_unique : (r r' : Scrubbing) → r ≡ scrubbed h image → r' ≡ scrubbed h image → r ≡ r'
+  pub scrubbed_unique : (r r' : Result ℕ Refusal) → r ≡ scrubbed h image → r' ≡ scrubbed h image → r ≡ r'
   scrubbed_unique r r' p q = p ∙ sym q
 
   pub place_shown_unique : (d o : ℕ) (r r' : List ℕ) → r ≡ place_shown h image d o → r' ≡ place_shown h image d o → r ≡ r'
@@ -30,17 +30,17 @@ module _ (h : Shelf) (image : List ℕ) where
 
   -- a is an address or a stripe, and x a unit, a buffer or the second buffer
   module _ (a : ℕ) (x : List ℕ) where
-    pub read_out_unique : (r r' : Cost) (after after' : List ℕ) → ReadOut h image a x r after → ReadOut h image a x r' after' → (r ≡ r') × (after ≡ after')
+    pub read_out_unique : (r r' : Result Cost Refusal) (after after' : List ℕ) → ReadOut h image a x r after → ReadOut h image a x r' after' → (r ≡ r') × (after ≡ after')
     read_out_unique r r' after after' = answered_unique
 
-    pub wrote_unique : (r r' : Cost) (after after' : List ℕ) → Wrote h image a x r after → Wrote h image a x r' after' → (r ≡ r') × (after ≡ after')
+    pub wrote_unique : (r r' : Result Cost Refusal) (after after' : List ℕ) → Wrote h image a x r after → Wrote h image a x r' after' → (r ≡ r') × (after ≡ after')
     wrote_unique r r' after after' = answered_unique
 
-    pub wrote_stripe_unique : (r r' : Cost) (after after' : List ℕ) → WroteStripe h image a x r after → WroteStripe h image a x r' after' → (r ≡ r') × (after ≡ after')
+    pub wrote_stripe_unique : (r r' : Result Cost Refusal) (after after' : List ℕ) → WroteStripe h image a x r after → WroteStripe h image a x r' after' → (r ≡ r') × (after ≡ after')
     wrote_stripe_unique r r' after after' = answered_unique
 
     pub address_shown_unique : (r r' : List ℕ) → r ≡ address_shown h image a x → r' ≡ address_shown h image a x → r ≡ r'
     address_shown_unique r r' p q = p ∙ sym q
 
-pub lost_unique : (h : Shelf) (d : ℕ) (r r' : Losing) → r ≡ lost h d → r' ≡ lost h d → r ≡ r'
+pub lost_unique : (h : Shelf) (d : ℕ) (r r' : Result Shelf Refusal) → r ≡ lost h d → r' ≡ lost h d → r ≡ r'
 lost_unique h d r r' p q = p ∙ sym q

@@ -1,16 +1,15 @@
 -- The bytes that a loop over a unit finds, and those of an exclusive-or; whether all are zero. Assumes nothing.
 use mathlib.Core.Path.{◌≡◌, refl, sym, ap, ◌∙◌}
 use mathlib.Core.Logic.{◌⊎◌, inl, inr, ⊎_elim}
-use mathlib.Core.Bool.{◌&&◌}
+use mathlib.Core.Bool.{Bool, ◌&&◌, and-true, and-false}
 use mathlib.Core.List.{List, [], ◌∷◌}
 use Prim.Native.Nat.{ℕ, zero, suc, ◌+◌, ◌*◌, ◌≤◌, ◌<◌}
-use native.Mathlib.Numerals.{add-one}
 use native.Mathlib.Omega.{arith}
 use lib.Bits.{bit_xor, bit_or, xor_zero_l, xor_zero_r}
 use lib.Dec.{eqb}
-use lib.ListN.{length, get_or, take}
-use lib.Seq.{take_all}
+use lib.ListN.{get_or}
 use borrow.Author.Tests.{eq-eqb, eqb-true, eqb-false}
+use Rattle.std.specs.List.{fold}
 use Rattle.design.proofs.Counting.{both, both_of, alike}
 use Rattle.design.proofs.ShelfTests.{or_zero}
 use Rattle.design.proofs.Writing.{Begun}
@@ -48,15 +47,8 @@ or_zero_test a b =
     (λ t. let zero = (or_zero a b).0 (eqb-true (bit_or a b) 0 t) in both_of (eq-eqb a 0 zero.0) (eq-eqb b 0 zero.1))
     (λ t. let zero = both (eqb a 0) (eqb b 0) t in eq-eqb (bit_or a b) 0 ((or_zero a b).1 (eqb-true a 0 zero.0, eqb-true b 0 zero.1)))
 
-take_zero : (x : List ℕ) (i : ℕ) → i < length x → is_zero (take (suc i) x) ≡ is_zero (take i x) && eqb (get_or x i 0) 0
+-- bytes joined to what is there already
+pub zero_joined : (a : ℕ) (x : List ℕ) → eqb (fold bit_or a x) 0 ≡ eqb a 0 && is_zero x
 unfolding is_zero
-take_zero [] i l = absurd (omega arith)
-take_zero (a ∷ x) zero l = cases (eqb a 0) (λ e. rw e) (λ e. rw e)
-take_zero (a ∷ x) (suc i) l = cases (eqb a 0) (λ e. rw e (take_zero x i (omega arith))) (λ e. rw e)
-
--- `any` is zero exactly when the first i bytes are
-pub zero_next : (x : List ℕ) (any i : ℕ) → i < length x → eqb any 0 ≡ is_zero (take i x) → eqb (bit_or any (get_or x i 0)) 0 ≡ is_zero (take (i + 1) x)
-zero_next x any i l e = rw (add-one, take_zero x i l, ← e) (or_zero_test any (get_or x i 0))
-
-pub zero_all : (x : List ℕ) (any i : ℕ) → length x ≤ i → eqb any 0 ≡ is_zero (take i x) → eqb any 0 ≡ is_zero x
-zero_all x any i l e = e ∙ ap is_zero (take_all i x l)
+zero_joined a [] = sym (and-true (eqb a 0))
+zero_joined a (b ∷ x) = zero_joined (bit_or a b) x ∙ ap (λ (t : Bool). t && is_zero x) (or_zero_test a b) ∙ cases (eqb b 0) (λ e. rw (e, and-true (eqb a 0))) (λ e. rw (e, and-false (eqb a 0)))

@@ -9,16 +9,16 @@ use native.Mathlib.Omega.{arith}
 use lib.Dec.{eqb}
 use lib.ListN.{length}
 use borrow.Author.Tests.{eqb-true, eqb-false, not-false}
+use Rattle.std.specs.Prelude.{Ok}
 use Rattle.design.specs.declared.Shelf.{Shelf}
-use Rattle.design.specs.declared.Verdict.TheVariants.{Accepted}
 use Rattle.design.specs.Count.{count}
 use Rattle.design.specs.Shelf.{is_shelf}
 use Rattle.design.proofs.Counting.{count_ext, count_none, none_counted}
 use Rattle.placement.specs.Layout.{layout_in, stripes}
-use Rattle.design.specs.Refusals.{first_broken}
+use Rattle.design.specs.Refusals.{first_broken, answered}
 use Rattle.parity.specs.Units.{zeros, xor_u, xor_sum, is_zero, put}
 use Rattle.parity.specs.Stripe.{unit_size, image_size, unit_in, present, cell, wrong}
-use Rattle.parity.specs.Calls.{by, new_parity, unit_written, whole_rules, scrubbed}
+use Rattle.parity.specs.Calls.{new_parity, unit_written, whole_rules, scrubbed, wrong_of}
 use Rattle.parity.proofs.Cases.{cases, put_other}
 use Rattle.parity.proofs.Xor.{xor_u_assoc, xor_u-length, xor_u_self, xor_u-zeros, xor_u_cancel, zero_exactly, xor_sum_ext, xor_sum-length, xor_sum-put}
 use Rattle.parity.proofs.Cells.{cell-length}
@@ -45,23 +45,23 @@ module _ (h : Shelf) (ok : is_shelf h ≡ true) (image : List ℕ) (len : length
         λ r. ap not (e.1 (r ∙ ap zeros (sym size))),
       )
 
-module _ (h : Shelf) (image : List ℕ) (accepted : first_broken (whole_rules h (length image)) ≡ Accepted) where
+module _ (h : Shelf) (image : List ℕ) (accepted : first_broken (whole_rules h (length image)) ≡ Ok tt) where
   abbrev right_at : (s : ℕ) → s < stripes (layout_in h) → (wrong h image s ≡ false) ↔ Right h image s
   right_at = let w = (whole_accepted h image).0 accepted in right_exactly h w.stored.shelf image w.stored.size
 
-  scrubbed_is : (scrubbed h image).wrong ≡ count (wrong h image) (stripes (layout_in h))
-  unfolding scrubbed by
+  scrubbed_is : wrong_of (scrubbed h image) ≡ count (wrong h image) (stripes (layout_in h))
+  unfolding scrubbed answered
   scrubbed_is = rw accepted
 
   -- a scrub counts the stripes that are not right: those that pass any test which only the right ones fail
   pub scrub_counts : (test : ℕ → Bool) → ((s : ℕ) → s < stripes (layout_in h) → (test s ≡ false) ↔ Right h image s)
-      → (scrubbed h image).wrong ≡ count test (stripes (layout_in h))
+      → wrong_of (scrubbed h image) ≡ count test (stripes (layout_in h))
   scrub_counts test exactly =
       scrubbed_is
       ∙ count_ext _ _ (stripes (layout_in h))
       (λ s hs. fail_alike (wrong h image s) (test s) (λ w. (exactly s hs).1 ((right_at s hs).0 w)) (λ t. (right_at s hs).1 ((exactly s hs).0 t)))
 
-  pub scrub_zero : ((scrubbed h image).wrong ≡ 0) ↔ ((s : ℕ) → s < stripes (layout_in h) → Right h image s)
+  pub scrub_zero : (wrong_of (scrubbed h image) ≡ 0) ↔ ((s : ℕ) → s < stripes (layout_in h) → Right h image s)
   scrub_zero = (
     λ e s hs. (right_at s hs).0 (none_counted (wrong h image) (stripes (layout_in h)) (sym scrubbed_is ∙ e) s hs),
     λ r. scrubbed_is ∙ count_none (wrong h image) (stripes (layout_in h)) (λ s hs. (right_at s hs).1 (r s hs)),

@@ -1,20 +1,18 @@
 -- The promises of the calls on the image (document 01, "The shelf value and the calls"). Each call's rules stand in the order of
--- their numbers; a refusal changes no byte, hands back the shelf and gives counts of zero.
-use Rattle.std.specs.Prelude.{◌≡◌, Bool, not, cond, ◌&&◌, ◌||◌, List, [], ◌∷◌, ℕ, ◌+◌, ◌-◌, ◌*◌, ◌%◌, leb, ltb, eqb, length}
+-- their numbers; a refusal changes no byte, leaves the caller the shelf that it had, and counts no unit.
+use Rattle.std.specs.Prelude.{◌≡◌, Bool, not, cond, ◌&&◌, ◌||◌, List, [], ◌∷◌, ℕ, ◌+◌, ◌-◌, ◌*◌, ◌%◌, leb, ltb, eqb, length, Result, Ok, Err}
 use Rattle.design.specs.declared.Shelf.{Shelf}
-use Rattle.design.specs.declared.Verdict.{Verdict}
-use Rattle.design.specs.declared.Verdict.TheVariants.{Accepted, Refused}
+use Rattle.std.specs.Result.{result_unwrap_or}
+use Rattle.design.specs.declared.Refusal.{Refusal}
 use Rattle.design.specs.declared.Refusal.TheVariants.{OtherImage, OutOfRange, OtherBuffer, SomeLost, NoneLost}
 use Rattle.design.specs.Count.{count, list_from}
-use Rattle.design.specs.Refusals.{Rule, first_broken}
+use Rattle.design.specs.Refusals.{Rule, Verdict, first_broken, answered}
 use Rattle.design.specs.Loss.{no_loss, disk_loss, is_whole, is_lost, with_loss}
 use Rattle.design.specs.Tuples.{holds}
 use Rattle.design.specs.Shelf.{shelf_rule}
 use Rattle.placement.specs.Layout.{layout_in, stripes, addresses, stripe_of, j_of, tuple_of}
 use Rattle.parity.specs.declared.Cost.{Cost}
-use Rattle.parity.specs.declared.Losing.{Losing}
 use Rattle.parity.specs.declared.Rebuilding.{Rebuilding}
-use Rattle.parity.specs.declared.Scrubbing.{Scrubbing}
 use Rattle.parity.specs.Units.{zeros, unit_at, xor_u, xor_sum, put}
 use Rattle.parity.specs.Stripe.{unit_size, depth, units, image_size, unit_in, stripe_here, index_here, present, cell, others, wrong, patch}
 
@@ -72,13 +70,21 @@ place_rules h n d o = shelf_rule h ∷ image_rule h n ∷ place_rule h d o ∷ p
 
 -- what an accepted call gives, and what a refused one
 unfoldable pub by : {A : Type 0} → Verdict → A → A → A
-by Accepted x y = x
-by (Refused r) x y = y
+by (Ok u) x y = x
+by (Err r) x y = y
+
+-- so many units read and written
+abbrev pub cost : ℕ → ℕ → Cost
+cost r w = record { read = r; written = w }
+
+-- the cost of an answer: none where it is refused
+abbrev pub cost_of : Result Cost Refusal → Cost
+cost_of answer = result_unwrap_or answer (cost 0 0)
 
 -- a call answers so, and leaves new bytes in what is lent to it, or those that stood there, by its verdict
-pub record Answered {A : Type 0} (said : A) (verdict : Verdict) (new old : List ℕ) (answer : A) (after : List ℕ) : Type 0 where
+pub record Answered {A : Type 0} (said : A) (v : Verdict) (new old : List ℕ) (answer : A) (after : List ℕ) : Type 0 where
   pub answers : answer ≡ said
-  pub leaves : after ≡ by verdict new old
+  pub leaves : after ≡ by v new old
 
 -- ---- blank
 
@@ -94,10 +100,10 @@ fetched h image s i = cond (present h (unit_in h s i)) (cell h image s i) (other
 unfoldable pub read_cost : Shelf → ℕ → ℕ → ℕ
 read_cost h s i = cond (present h (unit_in h s i)) 1 (h.k - 1)
 
-abbrev pub costs : Verdict → ℕ → ℕ → Cost
-costs verdict r w = record { verdict = verdict; read = by verdict r 0; written = by verdict w 0 }
+abbrev pub costs : Verdict → ℕ → ℕ → Result Cost Refusal
+costs v r w = answered v (cost r w)
 
-abbrev pub ReadOut : Shelf → List ℕ → ℕ → List ℕ → Cost → List ℕ → Type 0
+abbrev pub ReadOut : Shelf → List ℕ → ℕ → List ℕ → Result Cost Refusal → List ℕ → Type 0
 ReadOut h image a buffer =
     let v : Verdict = first_broken (unit_rules h (length image) a (length buffer)) in
     let s : ℕ = stripe_of (layout_in h) a in
@@ -126,7 +132,7 @@ write_reads h s j = cond (present h (unit_in h s j)) (cond (present h (unit_in h
 unfoldable pub write_writes : Shelf → ℕ → ℕ → ℕ
 write_writes h s j = cond (present h (unit_in h s j) && present h (unit_in h s (h.k - 1))) 2 1
 
-abbrev pub Wrote : Shelf → List ℕ → ℕ → List ℕ → Cost → List ℕ → Type 0
+abbrev pub Wrote : Shelf → List ℕ → ℕ → List ℕ → Result Cost Refusal → List ℕ → Type 0
 Wrote h image a unit =
     let v : Verdict = first_broken (unit_rules h (length image) a (length unit)) in
     let s : ℕ = stripe_of (layout_in h) a in
@@ -147,15 +153,19 @@ stripe_written h image s buffer =
 unfoldable pub stripe_writes : Shelf → ℕ → ℕ
 stripe_writes h s = count (λ i. present h (unit_in h s i)) h.k
 
-abbrev pub WroteStripe : Shelf → List ℕ → ℕ → List ℕ → Cost → List ℕ → Type 0
+abbrev pub WroteStripe : Shelf → List ℕ → ℕ → List ℕ → Result Cost Refusal → List ℕ → Type 0
 WroteStripe h image s buffer =
     let v : Verdict = first_broken (stripe_rules h (length image) s (length buffer)) in
     Answered (costs v 0 (stripe_writes h s)) v (stripe_written h image s buffer) image
 
 -- ---- lose
 
-unfoldable pub lost : Shelf → ℕ → Losing
-lost h d = record { verdict = first_broken (lose_rules h d); shelf = by (first_broken (lose_rules h d)) (with_loss h (disk_loss d)) h }
+unfoldable pub lost : Shelf → ℕ → Result Shelf Refusal
+lost h d = answered (first_broken (lose_rules h d)) (with_loss h (disk_loss d))
+
+-- the shelf after it, of a caller that had this one
+abbrev pub losing_of : Shelf → Result Shelf Refusal → Shelf
+losing_of h answer = result_unwrap_or answer h
 
 -- ---- rebuild
 
@@ -183,24 +193,32 @@ on_disk h s d = holds (layout_in h).design (tuple_of (layout_in h) s) d
 unfoldable pub read_from : Shelf → ℕ → ℕ → ℕ → ℕ
 read_from h from to e = cond (is_lost h e) 0 (count (λ n. restores h from to n && on_disk h (stripe_here h n) e) (units h))
 
-abbrev pub rebuilding : Verdict → Shelf → Rebuilding
-rebuilding verdict h =
-    record {
-      verdict = verdict;
-      shelf = by verdict (with_loss h no_loss) h;
-      counts = by verdict (list_from 0 64 (read_from h 0 (depth h))) (zeros 64);
-    }
+abbrev pub rebuilding : Verdict → Shelf → Result Rebuilding Refusal
+rebuilding v h = answered v (record { shelf = with_loss h no_loss; counts = list_from 0 64 (read_from h 0 (depth h)) })
 
-abbrev pub Rebuilt : Shelf → List ℕ → Rebuilding → List ℕ → Type 0
+-- the shelf after it, of a caller that had this one
+abbrev pub rebuilt_shelf : Shelf → Result Rebuilding Refusal → Shelf
+rebuilt_shelf h (Ok x) = x.shelf
+rebuilt_shelf h (Err r) = h
+
+-- the units that an answer counts of each disk: none where it is refused
+abbrev pub counts_of : Result Rebuilding Refusal → List ℕ
+counts_of (Ok x) = x.counts
+counts_of (Err r) = zeros 64
+
+abbrev pub Rebuilt : Shelf → List ℕ → Result Rebuilding Refusal → List ℕ → Type 0
 Rebuilt h image =
     let v : Verdict = first_broken (rebuild_rules h (length image)) in
     Answered (rebuilding v h) v (rebuilt_image h image) image
 
 -- ---- scrub
 
-unfoldable pub scrubbed : Shelf → List ℕ → Scrubbing
-scrubbed h image =
-    record { verdict = first_broken (whole_rules h (length image)); wrong = by (first_broken (whole_rules h (length image))) (count (wrong h image) (stripes (layout_in h))) 0 }
+unfoldable pub scrubbed : Shelf → List ℕ → Result ℕ Refusal
+scrubbed h image = answered (first_broken (whole_rules h (length image))) (count (wrong h image) (stripes (layout_in h)))
+
+-- the wrong stripes that an answer counts: none where it is refused
+abbrev pub wrong_of : Result ℕ Refusal → ℕ
+wrong_of answer = result_unwrap_or answer 0
 
 -- ---- show
 

@@ -1,6 +1,5 @@
 -- What only contracts inside the crate cite: no promise rests on it.
 pub mod Stores
-pub mod Sums
 pub mod Blocks
 pub mod Shapes
 pub mod Judged

@@ -1,33 +1,29 @@
 // Large writes: the data of a whole stripe and its parity, with nothing read.
-ghost use Rattle.std.specs.Prelude.{◌≡◌, ◌-◌, ◌*◌};
+ghost use Rattle.std.specs.Prelude.{◌≡◌};
 ghost use Rattle.parity.specs.Calls.{stripe_written, stripe_writes};
 ghost use Rattle.parity.specs.inner.Shapes.{StripeCall};
 
-use crate::{presence, sizes, stripe, units};
-use design::Shelf;
+use crate::stripe::Stripes;
+use crate::{presence, units};
+use placement::Checked;
 
 // The data of a stripe and its parity, any unit on the lost disk left out; how many units were written.
-pub fn store_stripe(shelf: Shelf, image: &mut [u8], s: usize, buffer: &[u8]) -> usize
-    requires { StripeCall shelf image.old s buffer.now }
-    ensures { (result ≡ stripe_writes shelf s) × (image.new ≡ stripe_written shelf image.old s buffer.now) }
+pub fn store_stripe(checked: Checked, image: &mut [u8], s: usize, buffer: &[u8]) -> usize
+    requires { StripeCall checked.shelf.now image.old s buffer.now }
+    ensures { (result ≡ stripe_writes checked.entry.shelf.now s) × (image.new ≡ stripe_written checked.entry.shelf.now image.old s buffer.now) }
 {
-    let table = shelf.table;
-    let ranks = sizes::ranks_of(shelf);
-    let shape = sizes::shape_of(shelf);
-    let size = shape.size;
+    let stripes = Stripes::of(checked);
     let mut written = 0;
-    for i in 0..shelf.k - 1 {
-        let n = stripe::number(&table, &ranks, shape, s, i);
-        if presence::is_present(shelf, n) {
-            let at = i * size;
-            units::store(image, n, &buffer[at..at + size]);
+    for (i, unit) in buffer.chunks_exact(stripes.size).enumerate() {
+        let n = stripes.number(s, i);
+        if presence::is_present(checked, n) {
+            units::store(image, n, unit);
             written += 1;
         }
     }
-    let last = shelf.k - 1;
-    let parity = stripe::number(&table, &ranks, shape, s, last);
-    if presence::is_present(shelf, parity) {
-        stripe::seal(image, parity, buffer, size, last);
+    let parity = stripes.number(s, checked.shelf.k - 1);
+    if presence::is_present(checked, parity) {
+        stripes.seal(image, parity, buffer);
         written += 1;
     }
     written

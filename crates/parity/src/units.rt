@@ -1,18 +1,16 @@
 // Units of the image, by their numbers.
-ghost use Rattle.std.specs.Prelude.{◌≡◌, ◌+◌, ◌*◌, ◌≤◌, ◌<◌, length};
+ghost use Rattle.std.specs.Prelude.{◌≡◌, ◌+◌, ◌*◌, ◌≤◌, length};
 ghost use Rattle.parity.specs.Units.{zeros, unit_at, xor_u};
-ghost use Rattle.parity.specs.inner.Stores.{put_unit, number_in, Reckoned};
+ghost use Rattle.parity.specs.inner.Stores.{put_unit};
 
 use crate::bytes;
-use design::Table;
-use placement::unchecked::PerEntry;
 
 pub fn clear_unit(image: &mut [u8], n: usize, size: usize)
     requires { n * size + size ≤ length image.old }
     ensures { image.new ≡ put_unit size image.old n (zeros size) }
 {
     let at = n * size;
-    bytes::clear(&mut image[at..at + size]);
+    image[at..at + size].fill(0);
 }
 
 pub fn store(image: &mut [u8], n: usize, unit: &[u8])
@@ -21,7 +19,7 @@ pub fn store(image: &mut [u8], n: usize, unit: &[u8])
 {
     let size = unit.len();
     let at = n * size;
-    bytes::copy(&mut image[at..at + size], unit);
+    image[at..at + size].copy_from_slice(unit);
 }
 
 // Unit n, into a lent one.
@@ -31,7 +29,7 @@ pub fn load(unit: &mut [u8], image: &[u8], n: usize)
 {
     let size = unit.len();
     let at = n * size;
-    bytes::copy(unit, &image[at..at + size]);
+    unit.copy_from_slice(&image[at..at + size]);
 }
 
 // Mixes a lent unit into unit n.
@@ -55,7 +53,7 @@ pub fn mix_out(unit: &mut [u8], image: &[u8], n: usize)
 }
 
 // Unit `to` becomes the exclusive-or of units x and y, in one pass: the loop that a rebuild spends its time in. Unit `to` may be one of
-// them.
+// them, so the three are reached by index: no split of the image lends one part twice.
 pub fn join(image: &mut [u8], to: usize, x: usize, y: usize, size: usize)
     requires { (to * size + size ≤ length image.old) × (x * size + size ≤ length image.old) × (y * size + size ≤ length image.old) }
     ensures { image.new ≡ put_unit size image.old to (xor_u (unit_at size image.old x) (unit_at size image.old y)) }
@@ -76,7 +74,7 @@ pub fn mix_within(image: &mut [u8], to: usize, from: usize, size: usize)
     join(image, to, to, from, size);
 }
 
-// Mixes unit `from` and a lent unit into unit `to`, in one pass.
+// Mixes unit `from` and a lent unit into unit `to`, in one pass, by index as in `join`.
 pub fn mix_both(image: &mut [u8], to: usize, from: usize, unit: &[u8])
     requires { (to * length unit.now + length unit.now ≤ length image.old) × (from * length unit.now + length unit.now ≤ length image.old) }
     ensures { image.new ≡ put_unit (length unit.now) image.old to (xor_u (unit_at (length unit.now) image.old to) (xor_u (unit_at (length unit.now) image.old from) unit.now)) }
@@ -87,41 +85,4 @@ pub fn mix_both(image: &mut [u8], to: usize, from: usize, unit: &[u8])
     for i in 0..size {
         image[a + i] = image[a + i] ^ (image[b + i] ^ unit[i]);
     }
-}
-
-// The number of unit i of stripe s: data i below k - 1, the parity at k - 1.
-pub fn number(
-    table: &Table,
-    ranks: &PerEntry,
-    k: usize,
-    b: usize,
-    r: usize,
-    depth: usize,
-    s: usize,
-    i: usize,
-) -> usize
-    requires { Reckoned k b r depth s i }
-    ensures { result ≡ number_in table.now ranks.now k b r depth s i }
-{
-    let row = s / b;
-    let parity = k - 1 - row % k;
-    let position = if i < k - 1 {
-        if i < parity { i } else { i + 1 }
-    } else {
-        parity
-    };
-    let entry = s % b * k + position;
-    wide(table[entry]) * depth + (row * r + wider(ranks[entry]))
-}
-
-fn wide(entry: u8) -> usize
-    ensures { (result ≡ entry) × (entry < 256) }
-{
-    entry as usize
-}
-
-fn wider(rank: u16) -> usize
-    ensures { (result ≡ rank) × (rank < 65536) }
-{
-    rank as usize
 }

@@ -7,20 +7,18 @@ use Prim.Native.Nat.{ℕ, ◌≤◌, ◌<◌}
 use native.Mathlib.Omega.{arith}
 use lib.Dec.{ltb}
 use borrow.Author.Tests.{lt-ltb, ltb-true, le-ltb}
+use Rattle.std.specs.Prelude.{Ok, Err}
 use Rattle.design.specs.declared.Shelf.{Shelf}
 use Rattle.design.specs.declared.Refusal.{Refusal}
 use Rattle.design.specs.declared.Refusal.TheVariants.{NotAShelf, OutOfRange}
-use Rattle.design.specs.declared.Verdict.{Verdict}
-use Rattle.design.specs.declared.Verdict.TheVariants.{Accepted, Refused}
+use Rattle.design.specs.Refusals.{Verdict, answered}
 use Rattle.design.specs.Refusals.{number, first_broken}
 use Rattle.design.specs.Shelf.{is_shelf, shelf_rule}
 use Rattle.design.proofs.Counting.{decided, both, both_of, fails}
 use Rattle.design.proofs.Lowest.{rising}
 use Rattle.placement.specs.declared.Spot.{Spot}
-use Rattle.placement.specs.declared.Placing.TheVariants as Placing
-use Rattle.placement.specs.declared.LookUp.{LookUp}
 use Rattle.placement.specs.Layout.{layout_in, addresses, offsets}
-use Rattle.placement.specs.Placed.{range_rule, spot_of, place_rules, placed, placed_by, stands_at, look_up_rules, looked_up, looked_up_by, run_rules}
+use Rattle.placement.specs.Placed.{range_rule, spot_of, place_rules, placed, stands_at, look_up_rules, looked_up, run_rules}
 
 -- ---- the rules rise
 
@@ -38,21 +36,21 @@ run_rise h first n = refl
 
 -- ---- a call with the rules of the shelf and of a range
 
-pub accept : (h : Shelf) {in_range : Bool} → is_shelf h ≡ true → in_range ≡ true → first_broken (shelf_rule h ∷ range_rule in_range ∷ []) ≡ Accepted
+pub accept : (h : Shelf) {in_range : Bool} → is_shelf h ≡ true → in_range ≡ true → first_broken (shelf_rule h ∷ range_rule in_range ∷ []) ≡ (Ok tt)
 unfolding first_broken
 accept h e t = rw (e, t)
 
-pub refuse_shelf : (h : Shelf) (in_range : Bool) → is_shelf h ≡ false → first_broken (shelf_rule h ∷ range_rule in_range ∷ []) ≡ Refused NotAShelf
+pub refuse_shelf : (h : Shelf) (in_range : Bool) → is_shelf h ≡ false → first_broken (shelf_rule h ∷ range_rule in_range ∷ []) ≡ Err NotAShelf
 unfolding first_broken
 refuse_shelf h in_range e = rw e
 
-pub refuse_range : (h : Shelf) {in_range : Bool} → is_shelf h ≡ true → in_range ≡ false → first_broken (shelf_rule h ∷ range_rule in_range ∷ []) ≡ Refused OutOfRange
+pub refuse_range : (h : Shelf) {in_range : Bool} → is_shelf h ≡ true → in_range ≡ false → first_broken (shelf_rule h ∷ range_rule in_range ∷ []) ≡ Err OutOfRange
 unfolding first_broken
 refuse_range h e t = rw (e, t)
 
 pub data Judged (h : Shelf) (in_range : Bool) : Type 0 where
   accepted : is_shelf h ≡ true → in_range ≡ true → Judged h in_range
-  refused : (x : Refusal) → first_broken (shelf_rule h ∷ range_rule in_range ∷ []) ≡ Refused x → Judged h in_range
+  refused : (x : Refusal) → first_broken (shelf_rule h ∷ range_rule in_range ∷ []) ≡ Err x → Judged h in_range
 
 pub judged : (h : Shelf) (in_range : Bool) → Judged h in_range
 judged h in_range = go (decided (is_shelf h)) (decided in_range)
@@ -71,20 +69,20 @@ pub record Places (h : Shelf) (a : ℕ) (x : Spot) : Type 0 where
   pub spot : x ≡ spot_of (layout_in h) a
 
 module _ (h : Shelf) (a : ℕ) where
-  pub placed_at : is_shelf h ≡ true → a < addresses (layout_in h) → placed h a ≡ Placing.At (spot_of (layout_in h) a)
-  unfolding placed place_rules placed_by
-  placed_at e l = ap (λ (x : Verdict). placed_by x h a) (accept h e (lt-ltb a (addresses (layout_in h)) l))
+  pub placed_at : is_shelf h ≡ true → a < addresses (layout_in h) → placed h a ≡ Ok (spot_of (layout_in h) a)
+  unfolding placed place_rules answered
+  placed_at e l = ap (λ (x : Verdict). answered x (spot_of (layout_in h) a)) (accept h e (lt-ltb a (addresses (layout_in h)) l))
 
-  pub placed_not_a-shelf : is_shelf h ≡ false → placed h a ≡ Placing.Refused NotAShelf
-  unfolding placed place_rules placed_by
+  pub placed_not_a-shelf : is_shelf h ≡ false → placed h a ≡ Err NotAShelf
+  unfolding placed place_rules answered
   placed_not_a-shelf e = rw (refuse_shelf h _ e)
 
-  pub placed_out_of_range : is_shelf h ≡ true → addresses (layout_in h) ≤ a → placed h a ≡ Placing.Refused OutOfRange
-  unfolding placed place_rules placed_by
+  pub placed_out_of_range : is_shelf h ≡ true → addresses (layout_in h) ≤ a → placed h a ≡ Err OutOfRange
+  unfolding placed place_rules answered
   placed_out_of_range e l = rw (refuse_range h e (le-ltb a (addresses (layout_in h)) l))
 
-  pub places : (x : Spot) → placed h a ≡ Placing.At x → Places h a x
-  unfolding placed place_rules placed_by
+  pub places : (x : Spot) → placed h a ≡ Ok x → Places h a x
+  unfolding placed place_rules answered
   places x p = go (judged h (ltb a (addresses (layout_in h))))
     where
       go : Judged h (ltb a (addresses (layout_in h))) → Places h a x
@@ -107,22 +105,22 @@ module _ (h : Shelf) (d o : ℕ) where
       let l = both (ltb d h.v) (ltb o (offsets (layout_in h))) t in
       (ltb-true d h.v l.0, ltb-true o (offsets (layout_in h)) l.1)
 
-  pub looked_up_lem : Looks h d o → looked_up h d o ≡ stands_at (layout_in h) d o
-  unfolding looked_up look_up_rules looked_up_by
+  pub looked_up_lem : Looks h d o → looked_up h d o ≡ Ok (stands_at (layout_in h) d o)
+  unfolding looked_up look_up_rules answered
   looked_up_lem w = rw (accept h w.shelf (both_of (lt-ltb d h.v w.disk) (lt-ltb o (offsets (layout_in h)) w.offset)))
 
-  pub looked_up_not_a-shelf : is_shelf h ≡ false → looked_up h d o ≡ LookUp.Refused NotAShelf
-  unfolding looked_up look_up_rules looked_up_by
+  pub looked_up_not_a-shelf : is_shelf h ≡ false → looked_up h d o ≡ Err NotAShelf
+  unfolding looked_up look_up_rules answered
   looked_up_not_a-shelf e = rw (refuse_shelf h _ e)
 
-  pub looked_up_out_of_range : is_shelf h ≡ true → (d < h.v → o < offsets (layout_in h) → ⊥) → looked_up h d o ≡ LookUp.Refused OutOfRange
-  unfolding looked_up look_up_rules looked_up_by
+  pub looked_up_out_of_range : is_shelf h ≡ true → (d < h.v → o < offsets (layout_in h) → ⊥) → looked_up h d o ≡ Err OutOfRange
+  unfolding looked_up look_up_rules answered
   looked_up_out_of_range e none =
       rw (refuse_range h e (fails (ltb d h.v && ltb o (offsets (layout_in h))) (λ t. let l = is_in_range t in none l.0 l.1)))
 
   -- what is not refused is accepted
-  pub looks : ((x : Refusal) → looked_up h d o ≡ LookUp.Refused x → ⊥) → Looks h d o
-  unfolding looked_up look_up_rules looked_up_by
+  pub looks : ((x : Refusal) → looked_up h d o ≡ Err x → ⊥) → Looks h d o
+  unfolding looked_up look_up_rules answered
   looks some = go (judged h (ltb d h.v && ltb o (offsets (layout_in h))))
     where
       go : Judged h (ltb d h.v && ltb o (offsets (layout_in h))) → Looks h d o

@@ -1,21 +1,24 @@
 -- A shelf's table entry by entry and tuple by tuple: as no tuple has a disk twice, a disk stands in as many entries as tuples.
 -- Assumes nothing.
-use mathlib.Core.Path.{◌≡◌, sym, ap, ◌∙◌}
-use mathlib.Core.Logic.{◌≢◌}
-use mathlib.Core.Bool.{Bool, true, cond}
+use mathlib.Core.Path.{◌≡◌, refl, sym, ap, ◌∙◌}
+use mathlib.Core.Logic.{◌⊎◌, inl, inr}
+use mathlib.Core.Bool.{Bool, true, false, cond}
 use mathlib.Core.List.{List}
-use Prim.Native.Nat.{ℕ, suc, ◌+◌, ◌*◌, ◌/◌, ◌%◌, ◌≤◌, ◌<◌}
+use Prim.Native.Nat.{ℕ, zero, suc, ◌+◌, ◌*◌, ◌/◌, ◌%◌, ◌≤◌, ◌<◌}
 use native.Mathlib.Nat.{div-add-mod', mod-lt, div-lt_iff_lt-mul}
 use native.Mathlib.Numerals.{add-one}
 use native.Mathlib.Omega.{arith}
 use lib.Dec.{eqb}
-use lib.ListN.{get_or}
-use borrow.Author.Tests.{eq-eqb, ne_eqb, eqb-true}
+use lib.ListN.{length, get_or, take}
+use Rattle.std.specs.Prelude.{◌==◌, count_by}
+use Rattle.std.proofs.lemmas.List.Sums.{count_by_more_yes, count_by_more_no}
+use lib.Seq.{get_or-take, length-take-le, take-take}
+use borrow.Author.Tests.{eq-eqb, eqb-true}
 use Rattle.design.specs.declared.Shelf.{Shelf}
 use Rattle.design.specs.Count.{count, nth}
 use Rattle.design.specs.Tuples.{holds, before}
 use Rattle.design.specs.Shelf.{design_in, is_shelf}
-use Rattle.design.proofs.Counting.{fails, count_true, count_false, count_add, count_none, Nth, nth_is, nth-count}
+use Rattle.design.proofs.Counting.{decided, fails, count_true, count_false, count_add, count_none, Nth, nth_is, nth-count}
 use Rattle.design.proofs.Sums.{sum_ext, count-sum}
 use Rattle.design.proofs.Design.{has-once}
 use Rattle.placement.specs.Entries.{is_disk}
@@ -24,12 +27,27 @@ use Rattle.placement.proofs.Held.{holds-disk}
 use Rattle.placement.proofs.Even.{Even, even_shelf}
 use Rattle.placement.proofs.Rows.{count_rows}
 
--- a loop's step: entry i is counted, or passed over
-pub times_counted : (table : List ℕ) (d i : ℕ) → get_or table i 0 ≡ d → count (is_disk table d) (i + 1) ≡ suc (count (is_disk table d) i)
-times_counted table d i e = rw add-one (count_true (is_disk table d) i (eq-eqb _ _ e))
+-- a part of the table has as many entries of a disk as the count up to its end
+pub counted : (table : List ℕ) (d n : ℕ) → n ≤ length table → count_by (λ entry. entry == d) (take n table) ≡ count (is_disk table d) n
+unfolding count
+counted table d zero h = refl
+counted table d (suc n) h = go (decided (is_disk table d n)) (counted table d n (omega arith))
+  where
+    more : count_by (λ entry. entry == d) (take (suc n) table) ≡ count_by (λ entry. entry == d) (take (n + 1) table)
+    more = ap (λ (m : ℕ). count_by (λ entry. entry == d) (take m table)) (sym (add-one n))
 
-pub times_passed : (table : List ℕ) (d i : ℕ) → get_or table i 0 ≢ d → count (is_disk table d) (i + 1) ≡ count (is_disk table d) i
-times_passed table d i ne = rw add-one (count_false (is_disk table d) i (ne_eqb _ _ ne))
+    go : (is_disk table d n ≡ true) ⊎ (is_disk table d n ≡ false) → count_by (λ entry. entry == d) (take n table) ≡ count (is_disk table d) n
+        → count_by (λ entry. entry == d) (take (suc n) table) ≡ count (is_disk table d) (suc n)
+    go (inl e) so_far = omega (arith, more, count_by_more_yes (λ entry. entry == d) table n 0 (omega arith) e, count_true (is_disk table d) n e)
+    go (inr e) so_far = omega (arith, more, count_by_more_no (λ entry. entry == d) table n 0 (omega arith) e, count_false (is_disk table d) n e)
+
+-- the entry of the first n that is the disk and has m such before it
+pub entry_nth : (table : List ℕ) (d n m i : ℕ) → n ≤ length table → i < length (take n table) → get_or (take n table) i 0 ≡ d
+    → count_by (λ entry. entry == d) (take i (take n table)) ≡ m → i ≡ nth (is_disk table d) n m
+entry_nth table d n m i h below found rank_there =
+    let l : i < n = omega (arith, length-take-le n table h) in
+    let rank : count (is_disk table d) i ≡ m = sym (counted table d i (omega arith)) ∙ rw (take-take i n table (omega arith)) at rank_there in
+    sym (nth-count (is_disk table d) n i l (eq-eqb _ d (sym (get_or-take n table i 0 l) ∙ found))) ∙ ap (nth (is_disk table d) n) rank
 
 module _ (h : Shelf) (e : is_shelf h ≡ true) where
   E : Even (layout_in h)

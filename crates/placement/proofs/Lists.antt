@@ -1,17 +1,16 @@
 -- What the loop of `run` makes of a list, and that all its turns make the list of the promise. Assumes nothing.
 --     filled L a i list     the list with its first i records replaced by the places from address a on
 use mathlib.Core.Path.{◌≡◌, refl, sym, ◌∙◌, ap}
-use Prim.Native.Nat.{ℕ, zero, suc, ◌+◌, ◌≤◌, ◌<◌}
+use Prim.Native.Nat.{ℕ, zero, suc, ◌+◌, ◌<◌}
 use native.Mathlib.Nat.{add-zero, add-suc, suc-add, not-suc-le-zero, le_of_suc-le-suc}
-use native.Mathlib.Omega.{arith}
 use mathlib.Core.List.{List, [], ◌∷◌}
 use lib.ListN.{length, get_or, set}
+use Rattle.std.specs.Prelude.{Ok, Err}
 use Rattle.design.specs.declared.Shelf.{Shelf}
-use Rattle.design.specs.declared.Verdict.{Verdict}
-use Rattle.design.specs.declared.Verdict.TheVariants.{Accepted, Refused}
+use Rattle.design.specs.Refusals.{Verdict}
 use Rattle.placement.specs.declared.Spot.{Spot}
 use Rattle.placement.specs.Layout.{Layout, layout_in}
-use Rattle.placement.specs.Placed.{spot_of, spots_from, list_by, length_by}
+use Rattle.placement.specs.Placed.{spot_of, spots_from, list_by}
 
 -- ---- the list after i turns
 
@@ -33,29 +32,11 @@ filled_more L a (suc i) (x ∷ list) h =
     ap (λ (p : ℕ). spot_of L a ∷ set (filled L (suc a) i list) i (spot_of L p)) (add-suc a i ∙ sym (suc-add a i))
     ∙ ap (λ (ys : List Spot). spot_of L a ∷ ys) (filled_more L (suc a) i list (le_of_suc-le-suc h))
 
-filled-all : (L : Layout) (a : ℕ) (list : List Spot) → filled L a (length list) list ≡ spots_from L a list
+-- all turns
+pub filled-all : (L : Layout) (a : ℕ) (list : List Spot) → filled L a (length list) list ≡ spots_from L a list
 unfolding spots_from
 filled-all L a [] = refl
 filled-all L a (x ∷ list) = ap (λ (ys : List Spot). spot_of L a ∷ ys) (filled-all L (suc a) list)
-
--- after all turns it is the list of the promise
-pub filled_is : (v : Verdict) (h : Shelf) (first : ℕ) (list : List Spot) → filled (layout_in h) first (length_by v (length list)) list ≡ list_by v h first list
-unfolding length_by list_by
-filled_is Accepted h first list = filled-all (layout_in h) first list
-filled_is (Refused x) h first list = refl
-
--- ---- how many turns there are
-
-pub length_by-le : (v : Verdict) (n : ℕ) → length_by v n ≤ n
-unfolding length_by
-length_by-le Accepted n = omega arith
-length_by-le (Refused x) n = omega arith
-
--- a turn is of an accepted run
-pub written_accepted : (v : Verdict) (n i : ℕ) → i < length_by v n → v ≡ Accepted
-unfolding length_by
-written_accepted Accepted n i l = refl
-written_accepted (Refused x) n i l = absurd (not-suc-le-zero l)
 
 -- ---- the list that a run leaves
 
@@ -66,8 +47,8 @@ spots_length L a (x ∷ list) = ap suc (spots_length L (suc a) list)
 
 pub list_by-length : (v : Verdict) (h : Shelf) (first : ℕ) (list : List Spot) → length (list_by v h first list) ≡ length list
 unfolding list_by
-list_by-length Accepted h first list = spots_length (layout_in h) first list
-list_by-length (Refused x) h first list = refl
+list_by-length (Ok tt) h first list = spots_length (layout_in h) first list
+list_by-length (Err x) h first list = refl
 
 pub spots_at : (L : Layout) (a i : ℕ) (list : List Spot) (x : Spot) → i < length list → get_or (spots_from L a list) i x ≡ spot_of L (a + i)
 unfolding spots_from

@@ -12,7 +12,8 @@ use borrow.Author.Tests.{eqb-true, eqb-false}
 use Rattle.design.specs.Count.{count}
 use Rattle.design.proofs.Counting.{decided}
 use Rattle.design.proofs.Sums.{count_next}
-use Rattle.placement.specs.Entries.{is_disk}
+use Rattle.design.proofs.Reading.{Filled}
+use Rattle.placement.specs.Entries.{is_disk, rank_in}
 
 -- entry i is raised by one
 get_or_raised : (l : List ℕ) (i x : ℕ) → i < length l → get_or (set l i (get_or l i 0 + 1)) x 0 ≡ get_or l x 0 + cond (eqb i x) 1 0
@@ -34,3 +35,10 @@ pub counted_next : (table : List ℕ) (i : ℕ) (counts : List ℕ) → get_or t
     → Counted table (i + 1) (set counts (get_or table i 0) (get_or counts (get_or table i 0) 0 + 1))
 counted_next table i counts h so_far d l =
     omega (arith, get_or_raised counts (get_or table i 0) d h, so_far d l, count_next (is_disk table d) i)
+
+-- the first i entries are counted and ranked
+pub record Ranking (table : List ℕ) (i : ℕ) (counts ranks : List ℕ) : Type 0 where
+  pub disks : length counts ≡ 64
+  pub places : length ranks ≡ 2048
+  pub counted : Counted table i counts
+  pub ranked : Filled (rank_in table) i ranks

@@ -9,6 +9,8 @@ use native.Mathlib.Omega.{arith}
 use lib.Dec.{eqb}
 use lib.Arith.{digits_lt, digits_div, digits_mod}
 use borrow.Author.Tests.{eq-eqb, eqb-true}
+use Rattle.std.specs.Prelude.{Err, Result, Ok}
+use Rattle.design.specs.declared.Refusal.{Refusal}
 use Rattle.design.specs.declared.Shelf.{Shelf}
 use Rattle.design.specs.Count.{count, nth}
 use Rattle.design.specs.Tuples.{holds}
@@ -110,7 +112,11 @@ module _ (L : Layout) (E : Even L) where
 unfoldable pub is_parity : LookUp → Bool
 is_parity (LookUp.Data stripe address) = false
 is_parity (LookUp.Parity stripe) = true
-is_parity (LookUp.Refused x) = false
+
+-- and with what looking up answers
+unfoldable pub finds_parity : Result LookUp Refusal → Bool
+finds_parity (Ok x) = is_parity x
+finds_parity (Err r) = false
 
 parity_test : (b : Bool) (s a : ℕ) → is_parity (cond b (LookUp.Parity s) (LookUp.Data s a)) ≡ b
 unfolding is_parity
@@ -149,7 +155,8 @@ module _ (L : Layout) (E : Even L) (d : ℕ) (hd : d < L.design.v) where
           ∙ omega arith
 
 -- the same, over looking up
-pub parity_looked_up : (h : Shelf) (d : ℕ) → is_shelf h ≡ true → d < h.v → count (λ o. is_parity (looked_up h d o)) (offsets (layout_in h)) ≡ h.T * h.r
+pub parity_looked_up : (h : Shelf) (d : ℕ) → is_shelf h ≡ true → d < h.v → count (λ o. finds_parity (looked_up h d o)) (offsets (layout_in h)) ≡ h.T * h.r
+unfolding finds_parity
 parity_looked_up h d e hd =
-    count_ext _ _ (offsets (layout_in h)) (λ o l. ap is_parity (looked_up_lem h d o (record { shelf = e; disk = hd; offset = l })))
+    count_ext _ _ (offsets (layout_in h)) (λ o l. ap finds_parity (looked_up_lem h d o (record { shelf = e; disk = hd; offset = l })))
     ∙ parity-units (layout_in h) (even_shelf h e) d hd

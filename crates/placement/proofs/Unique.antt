@@ -2,11 +2,12 @@
 use mathlib.Core.Path.{◌≡◌, sym, ◌∙◌}
 use mathlib.Core.List.{List}
 use Prim.Native.Nat.{ℕ}
+use Rattle.std.specs.Prelude.{Result}
+use Rattle.design.specs.declared.Refusal.{Refusal}
 use Rattle.design.specs.declared.Shelf.{Shelf}
-use Rattle.design.specs.declared.Verdict.{Verdict}
+use Rattle.design.specs.Refusals.{Verdict}
 use Rattle.design.specs.Refusals.{first_broken}
 use Rattle.placement.specs.declared.Spot.{Spot}
-use Rattle.placement.specs.declared.Placing.{Placing}
 use Rattle.placement.specs.declared.LookUp.{LookUp}
 use Rattle.placement.specs.declared.unchecked.Split.{Split}
 use Rattle.placement.specs.declared.unchecked.Place.{Place}
@@ -15,10 +16,10 @@ use Rattle.placement.specs.Layout.{layout_in, stripes, addresses, offsets, split
 use Rattle.placement.specs.Entries.{ranks_of, entries_of}
 use Rattle.placement.specs.Placed.{spot_of, placed, stands_at, looked_up, run_rules, Ran}
 
-pub placed_unique : (h : Shelf) (a : ℕ) (r r' : Placing) → r ≡ placed h a → r' ≡ placed h a → r ≡ r'
+pub placed_unique : (h : Shelf) (a : ℕ) (r r' : Result Spot Refusal) → r ≡ placed h a → r' ≡ placed h a → r ≡ r'
 placed_unique h a r r' p q = p ∙ sym q
 
-pub looked_up_unique : (h : Shelf) (d o : ℕ) (r r' : LookUp) → r ≡ looked_up h d o → r' ≡ looked_up h d o → r ≡ r'
+pub looked_up_unique : (h : Shelf) (d o : ℕ) (r r' : Result LookUp Refusal) → r ≡ looked_up h d o → r' ≡ looked_up h d o → r ≡ r'
 looked_up_unique h d o r r' p q = p ∙ sym q
 
 pub run_verdict_unique : (h : Shelf) (first n : ℕ) (r r' : Verdict) → r ≡ first_broken (run_rules h first n) → r' ≡ first_broken (run_rules h first n) → r ≡ r'

@@ -1,13 +1,11 @@
 -- The promises of placing, looking up and running.
-use Rattle.std.specs.Prelude.{◌≡◌, Bool, cond, ◌&&◌, List, [], ◌∷◌, ℕ, suc, ◌+◌, leb, ltb, eqb, length}
+use Rattle.std.specs.Prelude.{◌≡◌, Bool, cond, ◌&&◌, List, [], ◌∷◌, ℕ, suc, ◌+◌, leb, ltb, eqb, length, Result, Ok, Err}
 use Rattle.design.specs.declared.Shelf.{Shelf}
-use Rattle.design.specs.declared.Verdict.{Verdict}
-use Rattle.design.specs.declared.Verdict.TheVariants.{Accepted, Refused}
+use Rattle.design.specs.declared.Refusal.{Refusal}
 use Rattle.design.specs.declared.Refusal.TheVariants.{OutOfRange}
-use Rattle.design.specs.Refusals.{Rule, first_broken}
+use Rattle.design.specs.Refusals.{Rule, Verdict, first_broken, answered}
 use Rattle.design.specs.Shelf.{shelf_rule}
 use Rattle.placement.specs.declared.Spot.{Spot}
-use Rattle.placement.specs.declared.Placing.{Placing}
 use Rattle.placement.specs.declared.LookUp.{LookUp}
 use Rattle.placement.specs.Slots.{position_of}
 use Rattle.placement.specs.Layout.{Layout, layout_in, addresses, offsets, stripe_of, j_of, parity_of, disk_of, offset_of, stripe_at, position_at, address_of}
@@ -31,12 +29,8 @@ spot_of L a =
 unfoldable pub place_rules : Shelf → ℕ → List Rule
 place_rules h a = shelf_rule h ∷ range_rule (ltb a (addresses (layout_in h))) ∷ []
 
-unfoldable pub placed_by : Verdict → Shelf → ℕ → Placing
-placed_by Accepted h a = Placing.At (spot_of (layout_in h) a)
-placed_by (Refused x) h a = Placing.Refused x
-
-unfoldable pub placed : Shelf → ℕ → Placing
-placed h a = placed_by (first_broken (place_rules h a)) h a
+unfoldable pub placed : Shelf → ℕ → Result Spot Refusal
+placed h a = answered (first_broken (place_rules h a)) (spot_of (layout_in h) a)
 
 -- ---- looking a place up: its stripe, and its address or "parity"
 
@@ -49,12 +43,8 @@ stands_at L d o =
 unfoldable pub look_up_rules : Shelf → ℕ → ℕ → List Rule
 look_up_rules h d o = shelf_rule h ∷ range_rule (ltb d h.v && ltb o (offsets (layout_in h))) ∷ []
 
-unfoldable pub looked_up_by : Verdict → Shelf → ℕ → ℕ → LookUp
-looked_up_by Accepted h d o = stands_at (layout_in h) d o
-looked_up_by (Refused x) h d o = LookUp.Refused x
-
-unfoldable pub looked_up : Shelf → ℕ → ℕ → LookUp
-looked_up h d o = looked_up_by (first_broken (look_up_rules h d o)) h d o
+unfoldable pub looked_up : Shelf → ℕ → ℕ → Result LookUp Refusal
+looked_up h d o = answered (first_broken (look_up_rules h d o)) (stands_at (layout_in h) d o)
 
 -- ---- running: the places of consecutive addresses, one for each record of the list
 
@@ -66,13 +56,8 @@ spots_from L a [] = []
 spots_from L a (x ∷ list) = spot_of L a ∷ spots_from L (suc a) list
 
 unfoldable pub list_by : Verdict → Shelf → ℕ → List Spot → List Spot
-list_by Accepted h first list = spots_from (layout_in h) first list
-list_by (Refused x) h first list = list
-
--- how many of n records are written
-unfoldable pub length_by : Verdict → ℕ → ℕ
-length_by Accepted n = n
-length_by (Refused x) n = 0
+list_by (Ok u) h first list = spots_from (layout_in h) first list
+list_by (Err x) h first list = list
 
 pub record Ran (h : Shelf) (first : ℕ) (list : List Spot) (answer : Verdict) (after : List Spot) : Type 0 where
   pub answers : answer ≡ first_broken (run_rules h first (length list))

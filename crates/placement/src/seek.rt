@@ -1,39 +1,30 @@
-// Where a disk stands in the table.
-ghost use Rattle.std.specs.Prelude.{◌≡◌, ◌≤◌, ◌<◌};
-ghost use Rattle.design.specs.Count.{count, nth};
-ghost use Rattle.placement.specs.Entries.{is_disk};
+// Where a disk stands among entries of the table.
+ghost use Rattle.std.specs.Prelude.{◌≡◌, ◌==◌, ◌≤◌, ◌<◌, length, take, count_by, slice_index};
 
-use design::Table;
-
-// How many of the first n entries are disk d. There is one way out of the loop, so that the back end can turn it into vectors.
-pub fn times(table: &Table, n: usize, d: u8) -> usize
-    requires { n ≤ 2048 }
-    ensures { result ≡ count (is_disk table.now d) n }
+// How many of the entries are disk d. The back end turns this sum into vectors, and a count of what a filter lets through into a
+// loop over one entry at a time.
+pub fn times(entries: &[u8], d: u8) -> usize
+    requires { length entries.now ≤ 2048 }
+    ensures { result ≡ count_by (λ entry. entry == d) entries.now }
 {
-    let mut times: usize = 0;
-    for i in 0..n {
-        if table[i] == d {
-            times += 1;
-        }
-    }
-    times
+    entries.iter().map(|entry| usize::from(*entry == d)).sum()
 }
 
-// The entry of the first n that is disk d and has m such before it; there are more than m.
-pub fn nth(table: &Table, n: usize, d: u8, m: usize) -> usize
-    requires { (n ≤ 2048) × (m < count (is_disk table.now d) n) }
-    ensures { result ≡ nth (is_disk table.now d) n m }
+// The entry that is disk d and has m such before it; there are more than m.
+pub fn nth(entries: &[u8], d: u8, m: usize) -> usize
+    requires { m < count_by (λ entry. entry == d) entries.now }
+    ensures within { result < length entries.now }
+    ensures found { slice_index entries.now result ≡ d }
+    ensures before { count_by (λ entry. entry == d) (take result entries.now) ≡ m }
 {
     let mut left = m;
-    let mut i = 0;
-    while i < n {
-        if table[i] == d {
+    for (i, entry) in entries.iter().enumerate() {
+        if *entry == d {
             if left == 0 {
                 return i;
             }
             left -= 1;
         }
-        i += 1;
     }
-    i
+    unreachable!()
 }

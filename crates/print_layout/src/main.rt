@@ -3,10 +3,12 @@
 // that fails ends the sheet.
 #![tactic(auto)]
 
-ghost use Rattle.std.specs.Prelude.{◌≡◌, ◌≤◌, length, min};
+ghost use Rattle.std.specs.Prelude.{◌≤◌, length};
 
-use layout::{Start, Text};
-use std::io::{Read, Write};
+use design::Refusal;
+use layout::Start;
+use std::io;
+use std::io::{ErrorKind, Read, Write};
 
 // One byte more than the longest sheet, so that a longer input is refused for its length too.
 const SHEET_MOST: usize = 1543;
@@ -17,7 +19,8 @@ const LINES_MOST: usize = 1024;
 const BUFFER_SIZE: usize = LINES_MOST * layout::LINE_ROOM;
 
 // Reads until the buffer is full, the input ends or a read fails, and answers how many bytes are at the start of the buffer. A
-// read may give fewer bytes than there is room for, as from a pipe.
+// read may give fewer bytes than there is room for, as from a pipe. The library's `read_to_end` would want memory from the heap,
+// and this program has none.
 fn read_full<R: Read>(input: &mut R, buffer: &mut [u8]) -> usize
     ensures { result ≤ length buffer.new }
 {
@@ -31,52 +34,41 @@ fn read_full<R: Read>(input: &mut R, buffer: &mut [u8]) -> usize
     done
 }
 
-// Writes the text at the start of the buffer, and answers whether to go on.
-fn put<W: Write>(output: &mut W, text: Text, buffer: &[u8]) -> bool {
-    let Text::Length(length) = text else {
-        return false;
-    };
-    // Never: the library wrote the text into this buffer.
-    if buffer.len() < length {
-        return false;
-    }
-    output.write_all(&buffer[..length]).is_ok()
+// Writes the text at the start of the buffer. There is always one, and within the buffer: the library wrote it there.
+fn put<W: Write>(output: &mut W, text: Result<usize, Refusal>, buffer: &[u8]) -> io::Result<()> {
+    let length = text.map_err(|_| ErrorKind::InvalidData)?;
+    let text = buffer.get(..length).ok_or(ErrorKind::InvalidData)?;
+    output.write_all(text)
 }
 
-fn heading(start: Start, buffer: &mut [u8]) -> Text {
-    if start.number == 0 {
-        layout::first_line(start.shelf, buffer)
-    } else {
-        layout::refused_line(start.number, buffer)
-    }
-}
-
-fn least(a: usize, b: usize) -> usize
-    ensures { result ≡ min a b }
-{
-    if a < b { a } else { b }
-}
-
-fn print<W: Write>(output: &mut W, start: Start, buffer: &mut [u8]) {
-    let first = heading(start, buffer);
-    if !put(output, first, buffer) {
-        return;
-    }
-    let mut next = 0;
-    while next < start.stripes {
-        let n = least(start.stripes - next, LINES_MOST);
-        let text = layout::lines(start.shelf, next, n, buffer);
-        if !put(output, text, buffer) {
-            return;
+// The lines of an opened sheet, part by part, or that of a refused one.
+fn print<W: Write>(
+    output: &mut W,
+    opened: Result<Start, Refusal>,
+    buffer: &mut [u8],
+) -> io::Result<()> {
+    let start = match opened {
+        Ok(start) => start,
+        Err(refusal) => {
+            let line = layout::refused_line(refusal.number(), buffer);
+            return put(output, line, buffer);
         }
-        next += n;
+    };
+    let first = layout::first_line(start.shelf, buffer);
+    put(output, first, buffer)?;
+    for next in (0..start.stripes).step_by(LINES_MOST) {
+        let n = LINES_MOST.min(start.stripes - next);
+        let lines = layout::lines(start.shelf, next, n, buffer);
+        put(output, lines, buffer)?;
     }
+    Ok(())
 }
 
 fn main(rt: HostRuntime) {
     let mut sheet = [0u8; SHEET_MOST];
     let length = read_full(&mut rt.stdin(), &mut sheet);
-    let start = layout::open(&sheet[..length]);
+    let opened = layout::open(&sheet[..length]);
     let mut buffer = [0u8; BUFFER_SIZE];
-    print(&mut rt.stdout(), start, &mut buffer);
+    // A write that failed has nowhere to be told.
+    let _ = print(&mut rt.stdout(), opened, &mut buffer);
 }

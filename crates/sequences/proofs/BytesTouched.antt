@@ -9,16 +9,16 @@ use lib.Dec.{eqb}
 use lib.ListN.{length, get_or}
 use lib.Pow.{pow_pos}
 use borrow.Author.Tests.{eq-eqb, eqb-true, not-false}
+use Rattle.std.specs.Prelude.{Ok, Err, Result}
+use Rattle.parity.specs.Calls.{cost_of, losing_of}
+use Rattle.design.specs.Refusals.{verdict}
 use Rattle.design.specs.declared.Refusal.{Refusal}
 use Rattle.design.specs.declared.Shelf.{Shelf}
-use Rattle.design.specs.declared.Verdict.TheVariants.{Accepted, Refused}
 use Rattle.design.specs.Count.{count}
 use Rattle.design.specs.Shelf.{is_shelf}
 use Rattle.design.proofs.Counting.{alike, both, both_of, count_ext}
 use Rattle.placement.specs.Layout.{layout_in, stripes, stripe_of, j_of}
 use Rattle.parity.specs.declared.Cost.{Cost}
-use Rattle.parity.specs.declared.Losing.{Losing}
-use Rattle.parity.specs.declared.Rebuilding.{Rebuilding}
 use Rattle.parity.specs.Units.{unit_at}
 use Rattle.parity.specs.Stripe.{unit_size, units, image_size, unit_in, stripe_here, index_here, present}
 use Rattle.parity.proofs.By.{by_accepted}
@@ -26,7 +26,7 @@ use Rattle.parity.specs.inner.Shapes.{Held}
 use Rattle.parity.proofs.Accepted.{call_stripe-lt, call_data_lt}
 use Rattle.parity.proofs.Home.{stripe_home, index_home, unit_home}
 use Rattle.parity.proofs.Put.{unit-byte}
-use Rattle.parity.proofs.Refused.{no_cost, read_refused, write_refused, stripe_write_refused, lose_refused, rebuild_refused}
+use Rattle.parity.proofs.Refused.{NoCost, read_refused, write_refused, stripe_write_refused, lose_refused, rebuild_refused}
 use Rattle.parity.proofs.Sets.{write_set, stripe_set}
 use Rattle.parity.proofs.PromisedWrite.{write_call, write_counts, write_keeps}
 use Rattle.parity.proofs.PromisedStripe.{stripe_write_counts, stripe_write_keeps}
@@ -73,19 +73,19 @@ module _ (x y : State) (stored : Held x.shelf x.image) where
 
   unit_kept : (e : Event) → Step x e y → (n : ℕ) → n < units x.shelf → may_change x.shelf e n ≡ false → SameUnit x y n
   unfolding may_change stripe_set
-  unit_kept (write a unit answer) (P, s) n hn out = by-verdict answer.verdict
+  unit_kept (write a unit answer) (P, s) n hn out = by-verdict (verdict answer)
       (λ v.
       let w = write_call h a unit x.image answer y.image P v in
       (write_keeps h a unit x.image answer y.image P v).unit n hn
       (sym (write_set_lem h stored.shelf (stripe_of (layout_in h) a) (j_of (layout_in h) a) n (call_stripe-lt w) (call_data_lt w) hn) ∙ sym (by_accepted _ false v) ∙ out))
       (λ r v. same_unit (write_refused h x.image r a unit answer y.image v P).1 n)
-  unit_kept (write_stripe s buffer answer) (P, e) n hn out = by-verdict answer.verdict
+  unit_kept (write_stripe s buffer answer) (P, e) n hn out = by-verdict (verdict answer)
       (λ v. (stripe_write_keeps h s buffer x.image answer y.image P v).unit n hn (sym (by_accepted _ false v) ∙ out))
       (λ r v. same_unit (stripe_write_refused h x.image r s buffer answer y.image v P).1 n)
   unit_kept (lose d answer) (P, s, i) n hn out = same_unit i n
-  unit_kept (rebuild answer) (P, s) n hn out = by-verdict answer.verdict
+  unit_kept (rebuild answer) (P, s) n hn out = by-verdict (verdict answer)
       (λ v. (rebuild_keeps h x.image answer y.image P v).unit n hn (sym (by_accepted _ false v) ∙ out))
-      (λ r v. same_unit (rebuild_refused h x.image r answer y.image P v).1 n)
+      (λ r v. same_unit (rebuild_refused h x.image r answer y.image P v).3 n)
   unit_kept (look call) (P, e) n hn out = same_unit (ap (λ (x : State). x.image) e) n
   unit_kept disturb (P, s) n hn out = P.elsewhere n hn (not-false _ out)
 
@@ -108,15 +108,15 @@ module _ (x y : State) (stored : Held x.shelf x.image) where
 both_same : (x y : State) → y.shelf ≡ x.shelf → y.image ≡ x.image → y ≡ x
 both_same x y s i = ap₂ (λ (h : Shelf) (image : List ℕ). record { shelf = h; image = image }) s i
 
-refused_nothing : (x y : State) (e : Event) → Step x e y → (r : Refusal) → verdict_of e ≡ Refused r → y ≡ x
+refused_nothing : (x y : State) (e : Event) → Step x e y → (r : Refusal) → verdict_of e ≡ Err r → y ≡ x
 unfolding verdict_of
 refused_nothing x y (write a unit answer) (P, s) r v = both_same x y s (write_refused x.shelf x.image r a unit answer y.image v P).1
 refused_nothing x y (write_stripe t buffer answer) (P, s) r v = both_same x y s (stripe_write_refused x.shelf x.image r t buffer answer y.image v P).1
 refused_nothing x y (lose d answer) (P, s, i) r v =
-    both_same x y (s ∙ ap (λ (l : Losing). l.shelf) P ∙ lose_refused x.shelf d r (sym (ap (λ (l : Losing). l.verdict) P) ∙ v)) i
+    both_same x y (s ∙ ap (losing_of x.shelf) P ∙ lose_refused x.shelf d r (sym (ap verdict P) ∙ v)) i
 refused_nothing x y (rebuild answer) (P, s) r v =
     let q = rebuild_refused x.shelf x.image r answer y.image P v in
-    both_same x y (s ∙ ap (λ (l : Rebuilding). l.shelf) q.0) q.1
+    both_same x y (s ∙ q.1) q.3
 refused_nothing x y (look call) (P, e) r v = e
 refused_nothing x y disturb (P, s) r v = let z : ◌≡◌ {A = ℕ} 0 1 = cc in absurd (omega arith)
 
@@ -137,8 +137,8 @@ step_spares sheet before x y e R s =
     }
 
 -- an accepted write may change as many units as it answers that it has written
-pub write_changes : (x y : State) (a : ℕ) (unit : List ℕ) (answer : Cost) → Step x (write a unit answer) y → answer.verdict ≡ Accepted
-    → count (may_change x.shelf (write a unit answer)) (units x.shelf) ≡ answer.written
+pub write_changes : (x y : State) (a : ℕ) (unit : List ℕ) (answer : Result Cost Refusal) → Step x (write a unit answer) y → verdict answer ≡ Ok tt
+    → count (may_change x.shelf (write a unit answer)) (units x.shelf) ≡ (cost_of answer).written
 unfolding may_change
 write_changes x y a unit answer (P, s) v =
     let h : Shelf = x.shelf in
@@ -146,15 +146,15 @@ write_changes x y a unit answer (P, s) v =
     count_ext _ _ (units h) (λ n hn. by_accepted _ false v ∙ write_set_lem h w.stored.shelf (stripe_of (layout_in h) a) (j_of (layout_in h) a) n (call_stripe-lt w) (call_data_lt w) hn)
     ∙ sym (write_counts h a unit x.image answer y.image P v).1
 
-pub stripe_write_changes : (x y : State) (t : ℕ) (buffer : List ℕ) (answer : Cost) → Step x (write_stripe t buffer answer) y → answer.verdict ≡ Accepted
-    → count (may_change x.shelf (write_stripe t buffer answer)) (units x.shelf) ≡ answer.written
+pub stripe_write_changes : (x y : State) (t : ℕ) (buffer : List ℕ) (answer : Result Cost Refusal) → Step x (write_stripe t buffer answer) y → verdict answer ≡ Ok tt
+    → count (may_change x.shelf (write_stripe t buffer answer)) (units x.shelf) ≡ (cost_of answer).written
 unfolding may_change stripe_set
 stripe_write_changes x y t buffer answer (P, s) v =
     count_ext _ _ (units x.shelf) (λ n hn. by_accepted _ false v) ∙ sym (stripe_write_counts x.shelf t buffer x.image answer y.image P v).1
 
 -- a refused read leaves the buffer too, and counts nothing
-pub refused_read_leaves : (sheet : List ℕ) (before rest : List Event) (z : State) (a : ℕ) (buffer after : List ℕ) (answer : Cost) (r : Refusal)
-    → Run sheet (before ++ look (read a buffer answer after) ∷ rest) z → answer.verdict ≡ Refused r → (answer ≡ no_cost r) × (after ≡ buffer)
+pub refused_read_leaves : (sheet : List ℕ) (before rest : List Event) (z : State) (a : ℕ) (buffer after : List ℕ) (answer : Result Cost Refusal) (r : Refusal)
+    → Run sheet (before ++ look (read a buffer answer after) ∷ rest) z → verdict answer ≡ Err r → NoCost r answer × (after ≡ buffer)
 refused_read_leaves sheet before rest z a buffer after answer r R v =
     let m = moment before R in
     read_refused m.here.shelf m.here.image r a buffer answer after v m.step.0

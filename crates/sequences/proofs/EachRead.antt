@@ -5,14 +5,15 @@ use mathlib.Core.Logic.{◌↔◌, ◌≢◌}
 use mathlib.Core.List.{List, [], ◌∷◌, ◌++◌}
 use Prim.Native.Nat.{ℕ, ◌<◌}
 use lib.ListN.{length}
+use Rattle.std.specs.Prelude.{Ok, Result}
+use Rattle.design.specs.declared.Refusal.{Refusal}
 use Rattle.design.specs.declared.Shelf.{Shelf}
-use Rattle.design.specs.declared.Verdict.TheVariants.{Accepted}
-use Rattle.design.specs.Refusals.{first_broken}
+use Rattle.design.specs.Refusals.{first_broken, verdict}
 use Rattle.placement.specs.Layout.{layout_in, addresses, stripe_of, j_of}
 use Rattle.parity.specs.declared.Cost.{Cost}
 use Rattle.parity.specs.Stripe.{unit_size, unit_in, present}
-use Rattle.parity.specs.Calls.{unit_rules, read_cost, fetched, address_shown}
-use Rattle.parity.proofs.By.{by_accepted, by_refused, cost_verdict}
+use Rattle.parity.specs.Calls.{unit_rules, fetched, address_shown}
+use Rattle.parity.proofs.By.{by_accepted, by_refused, answer_verdict}
 use Rattle.parity.proofs.Cases.{cases}
 use Rattle.parity.proofs.Accepted.{unit_accepted}
 use Rattle.parity.proofs.Memory.{Keeps, reads_memory}
@@ -26,21 +27,21 @@ use Rattle.sequences.proofs.Remembers.{run_remembers}
 
 -- ---- read
 
-module _ (sheet : List ℕ) (before rest : List Event) (z : State) (a : ℕ) (buffer after : List ℕ) (answer : Cost)
+module _ (sheet : List ℕ) (before rest : List Event) (z : State) (a : ℕ) (buffer after : List ℕ) (answer : Result Cost Refusal)
     (R : Run sheet (before ++ look (read a buffer answer after) ∷ rest) z) where
   -- "Each accepted read gives the unit last written at its address, or zeros."
-  pub read_gives_last : answer.verdict ≡ Accepted → after ≡ last_written (shelf_from sheet) before a
+  pub read_gives_last : verdict answer ≡ Ok tt → after ≡ last_written (shelf_from sheet) before a
   read_gives_last e =
       let m = moment before R in
       let x = m.here in
       read_remembers x.shelf x.image (last_written (shelf_from sheet) before) (run_remembers sheet before x m.run) a buffer answer after m.step.0 e
 
   -- accepted for an address below N and a buffer of U bytes, whatever came before
-  pub read_accepted : (answer.verdict ≡ Accepted) ↔ ((a < addresses (layout_in (shelf_from sheet))) × (length buffer ≡ unit_size (shelf_from sheet)))
+  pub read_accepted : (verdict answer ≡ Ok tt) ↔ ((a < addresses (layout_in (shelf_from sheet))) × (length buffer ≡ unit_size (shelf_from sheet)))
   read_accepted =
       let m = moment before R in
       let x = m.here in
-      let is = cost_verdict (read_cost x.shelf (stripe_of (layout_in x.shelf) a) (j_of (layout_in x.shelf) a)) 0 m.step.0.answers in
+      let is = answer_verdict _ _ m.step.0.answers in
       let K = run_remembers sheet before x m.run in
       let w = unit_accepted x.shelf x.image a buffer in
       let same = run_shelf sheet before x m.run in (

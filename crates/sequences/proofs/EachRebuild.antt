@@ -7,9 +7,11 @@ use mathlib.Core.List.{List, [], ◌∷◌, ◌++◌}
 use Prim.Native.Nat.{ℕ, ◌*◌, ◌≤◌, ◌<◌}
 use native.Mathlib.Omega.{arith}
 use lib.Dec.{ltb, eqb}
-use lib.ListN.{get_or}
+use lib.ListN.{get_or, length}
 use borrow.Author.Tests.{lt-ltb, le-ltb, eq-eqb, ne_eqb}
-use Rattle.design.specs.declared.Verdict.TheVariants.{Accepted}
+use Rattle.std.specs.Prelude.{Ok, Result}
+use Rattle.design.specs.declared.Refusal.{Refusal}
+use Rattle.design.specs.Refusals.{verdict, first_broken}
 use Rattle.design.specs.declared.Shelf.{Shelf}
 use Rattle.design.specs.Count.{count}
 use Rattle.design.specs.Loss.{no_loss, is_whole, is_lost}
@@ -18,10 +20,9 @@ use Rattle.design.proofs.ShelfTests.{shelf_parts}
 use Rattle.design.proofs.RoundTrip.{opened_is_shelf}
 use Rattle.placement.specs.Layout.{layout_in, stripes}
 use Rattle.parity.specs.declared.Rebuilding.{Rebuilding}
-use Rattle.parity.specs.declared.Scrubbing.{Scrubbing}
 use Rattle.parity.specs.Stripe.{units, wrong}
-use Rattle.parity.specs.Calls.{scrubbed}
-use Rattle.parity.proofs.By.{by_accepted}
+use Rattle.parity.specs.Calls.{scrubbed, counts_of, wrong_of, whole_rules}
+use Rattle.parity.proofs.By.{by_accepted, answer_verdict}
 use Rattle.parity.proofs.Accepted.{whole_accepted, rebuild_accepted}
 use Rattle.parity.proofs.Blanks.{whole_right}
 use Rattle.parity.proofs.Meets.{lost_below}
@@ -38,23 +39,23 @@ use Rattle.sequences.proofs.Copies.{copy_takes}
 
 -- ---- rebuild
 
-module _ (sheet : List ℕ) (before rest : List Event) (z : State) (answer : Rebuilding)
+module _ (sheet : List ℕ) (before rest : List Event) (z : State) (answer : Result Rebuilding Refusal)
     (R : Run sheet (before ++ rebuild answer ∷ rest) z) where
   -- a rebuild is accepted exactly when a disk is lost
-  pub rebuild_accepted_lost : (answer.verdict ≡ Accepted) ↔ ((d : ℕ) × (is_lost (shelf_after sheet before) d ≡ true))
+  pub rebuild_accepted_lost : (verdict answer ≡ Ok tt) ↔ ((d : ℕ) × (is_lost (shelf_after sheet before) d ≡ true))
   rebuild_accepted_lost =
       let m = moment before R in
       let x = m.here in
-      let is = ap (λ (r : Rebuilding). r.verdict) m.step.0.answers in
+      let is = answer_verdict _ _ m.step.0.answers in
       let w = rebuild_accepted x.shelf x.image in
       let now = run_loss sheet before x m.run in (
         λ e. some_lost (lost_after before) (ap is_whole (sym now) ∙ (w.0 (sym is ∙ e)).lost),
         λ p. is ∙ w.1 (record { stored = (run_remembers sheet before x m.run).stored; lost = ap is_whole now ∙ lost_unwhole (lost_after before) p.0 p.1 }),
       )
 
-  module _ (accepted : answer.verdict ≡ Accepted) (d : ℕ) (lost : is_lost (shelf_after sheet before) d ≡ true) where
+  module _ (accepted : verdict answer ≡ Ok tt) (d : ℕ) (lost : is_lost (shelf_after sheet before) d ≡ true) where
     count_is : (e : ℕ) → e < 64
-        → get_or answer.counts e 0 ≡ cond (ltb e (shelf_from sheet).v && not (eqb e d)) ((shelf_from sheet).T * (shelf_from sheet).k * (shelf_from sheet).lambda) 0
+        → get_or (counts_of answer) e 0 ≡ cond (ltb e (shelf_from sheet).v && not (eqb e d)) ((shelf_from sheet).T * (shelf_from sheet).k * (shelf_from sheet).lambda) 0
     count_is e he =
         let m = moment before R in
         let x = m.here in
@@ -62,13 +63,13 @@ module _ (sheet : List ℕ) (before rest : List Event) (z : State) (answer : Reb
         (rebuild_counts_are x.shelf x.image answer m.next.image m.step.0 accepted d (ap (λ (h : Shelf). is_lost h d) (run_shelf sheet before x m.run) ∙ lost) e he)
 
     -- "Each rebuild reads from every other disk": lambda units for each of the T·k copies
-    pub rebuild_reads : (e : ℕ) → e < (shelf_from sheet).v → e ≢ d → get_or answer.counts e 0 ≡ (shelf_from sheet).T * (shelf_from sheet).k * (shelf_from sheet).lambda
+    pub rebuild_reads : (e : ℕ) → e < (shelf_from sheet).v → e ≢ d → get_or (counts_of answer) e 0 ≡ (shelf_from sheet).T * (shelf_from sheet).k * (shelf_from sheet).lambda
     rebuild_reads e he ne =
         let most : (shelf_from sheet).v ≤ 64 = (shelf_parts (shelf_from sheet) (opened_is_shelf sheet R.starts.accepts)).limits.v_most in
         rw (lt-ltb e _ he, ne_eqb e d ne) at (count_is e (omega arith))
 
     -- and none from the lost disk, or where there is no disk
-    pub rebuild_reads_else : (e : ℕ) → e < 64 → (e ≡ d) ⊎ ((shelf_from sheet).v ≤ e) → get_or answer.counts e 0 ≡ 0
+    pub rebuild_reads_else : (e : ℕ) → e < 64 → (e ≡ d) ⊎ ((shelf_from sheet).v ≤ e) → get_or (counts_of answer) e 0 ≡ 0
     rebuild_reads_else e l (inl p) = rw (eq-eqb e d p, and-false (ltb e (shelf_from sheet).v)) at (count_is e l)
     rebuild_reads_else e l (inr p) = rw (le-ltb e _ p) at (count_is e l)
 
@@ -94,7 +95,7 @@ none_wrong sheet events z R none s hs =
     (whole_right z.shelf z.image _ K ((whole_exactly z.shelf.loss).1 (run_loss sheet events z R ∙ none)) s l)
 
 -- so it is after a rebuild, which leaves no disk lost
-pub rebuild_right : (sheet : List ℕ) (before : List Event) (z : State) (answer : Rebuilding) → Run sheet (before ++ rebuild answer ∷ []) z → answer.verdict ≡ Accepted
+pub rebuild_right : (sheet : List ℕ) (before : List Event) (z : State) (answer : Result Rebuilding Refusal) → Run sheet (before ++ rebuild answer ∷ []) z → verdict answer ≡ Ok tt
     → (z.shelf.loss ≡ no_loss) × ((s : ℕ) → s < stripes (layout_in (shelf_from sheet)) → wrong z.shelf z.image s ≡ false)
 unfolding loss_by
 rebuild_right sheet before z answer R accepted =
@@ -103,12 +104,12 @@ rebuild_right sheet before z answer R accepted =
     (run_loss sheet events z R ∙ none, none_wrong sheet events z R none)
 
 -- a scrub answers 0 whenever no disk is lost
-pub scrub_finds_none : (sheet : List ℕ) (before rest : List Event) (z : State) (answer : Scrubbing) → Run sheet (before ++ look (scrub answer) ∷ rest) z
-    → lost_after before ≡ no_loss → (answer.verdict ≡ Accepted) × (answer.wrong ≡ 0)
+pub scrub_finds_none : (sheet : List ℕ) (before rest : List Event) (z : State) (answer : Result ℕ Refusal) → Run sheet (before ++ look (scrub answer) ∷ rest) z
+    → lost_after before ≡ no_loss → (verdict answer ≡ Ok tt) × (wrong_of answer ≡ 0)
 unfolding scrubbed
 scrub_finds_none sheet before rest z answer R none =
     let m = moment before R in
     let x = m.here in
     let K = run_remembers sheet before x m.run in
     let v = (whole_accepted x.shelf x.image).1 (record { stored = K.stored; whole = (whole_exactly x.shelf.loss).1 (run_loss sheet before x m.run ∙ none) }) in
-    (ap (λ (r : Scrubbing). r.verdict) m.step.0 ∙ v, ap (λ (r : Scrubbing). r.wrong) m.step.0 ∙ scrub_remembers x.shelf x.image _ K v)
+    (answer_verdict (first_broken (whole_rules x.shelf (length x.image))) _ m.step.0 ∙ v, ap wrong_of m.step.0 ∙ scrub_remembers x.shelf x.image _ K v)

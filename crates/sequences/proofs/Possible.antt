@@ -4,25 +4,25 @@ use mathlib.Core.Path.{◌≡◌, refl, sym, ap, ◌∙◌}
 use mathlib.Core.List.{List, []}
 use Prim.Native.Nat.{ℕ}
 use lib.ListN.{length}
+use Rattle.std.specs.Prelude.{Ok, Result}
+use Rattle.design.specs.declared.Refusal.{Refusal}
+use Rattle.design.specs.Refusals.{verdict}
 use Rattle.design.specs.declared.Shelf.{Shelf}
-use Rattle.design.specs.declared.Verdict.TheVariants.{Accepted}
 use Rattle.design.specs.Loss.{is_whole}
 use Rattle.design.specs.Sheet.{opened}
 use Rattle.design.proofs.Losses.{none_whole}
 use Rattle.design.proofs.RoundTrip.{opened_is_shelf}
 use Rattle.parity.specs.declared.Cost.{Cost}
-use Rattle.parity.specs.declared.Losing.{Losing}
 use Rattle.parity.specs.declared.Rebuilding.{Rebuilding}
-use Rattle.parity.specs.declared.Scrubbing.{Scrubbing}
 use Rattle.parity.specs.Units.{zeros}
 use Rattle.parity.specs.Stripe.{image_size}
-use Rattle.parity.specs.Calls.{lost, scrubbed, place_shown, address_shown}
+use Rattle.parity.specs.Calls.{lost, scrubbed, place_shown, address_shown, losing_of}
 use Rattle.parity.proofs.By.{by_accepted}
 use Rattle.parity.proofs.Accepted.{whole_accepted}
 use Rattle.sequences.specs.Sequence.{write, write_stripe, lose, rebuild, look, disturb, read, scrub, show_place, show_address, Disturbed, State, Step, Steps, Run, shelf_from}
 use Rattle.sequences.proofs.Shelves.{opened-whole}
 
-pub can_start : (sheet : List ℕ) (found : List ℕ) → (opened sheet).verdict ≡ Accepted → length found ≡ image_size (shelf_from sheet)
+pub can_start : (sheet : List ℕ) (found : List ℕ) → verdict (opened sheet) ≡ Ok tt → length found ≡ image_size (shelf_from sheet)
     → Run sheet [] (record { shelf = shelf_from sheet; image = zeros (length found) })
 unfolding Steps
 can_start sheet found e size =
@@ -36,22 +36,22 @@ can_start sheet found e size =
     }
 
 module _ (x : State) where
-  pub can_write : (a : ℕ) (unit : List ℕ) → (answer : Cost) × (y : State) × Step x (write a unit answer) y
+  pub can_write : (a : ℕ) (unit : List ℕ) → (answer : Result Cost Refusal) × (y : State) × Step x (write a unit answer) y
   can_write a unit = (_, record { shelf = x.shelf; image = _ }, (record { answers = refl; leaves = refl }, refl))
 
-  pub can_write_stripe : (s : ℕ) (buffer : List ℕ) → (answer : Cost) × (y : State) × Step x (write_stripe s buffer answer) y
+  pub can_write_stripe : (s : ℕ) (buffer : List ℕ) → (answer : Result Cost Refusal) × (y : State) × Step x (write_stripe s buffer answer) y
   can_write_stripe s buffer = (_, record { shelf = x.shelf; image = _ }, (record { answers = refl; leaves = refl }, refl))
 
-  pub can_lose : (d : ℕ) → (answer : Losing) × (y : State) × Step x (lose d answer) y
-  can_lose d = (lost x.shelf d, record { shelf = (lost x.shelf d).shelf; image = x.image }, (refl, refl, refl))
+  pub can_lose : (d : ℕ) → (answer : Result Shelf Refusal) × (y : State) × Step x (lose d answer) y
+  can_lose d = (lost x.shelf d, record { shelf = losing_of x.shelf (lost x.shelf d); image = x.image }, (refl, refl, refl))
 
-  pub can_rebuild : (answer : Rebuilding) × (y : State) × Step x (rebuild answer) y
+  pub can_rebuild : (answer : Result Rebuilding Refusal) × (y : State) × Step x (rebuild answer) y
   can_rebuild = (_, record { shelf = _; image = _ }, (record { answers = refl; leaves = refl }, refl))
 
-  pub can_read : (a : ℕ) (buffer : List ℕ) → (answer : Cost) × (after : List ℕ) × Step x (look (read a buffer answer after)) x
+  pub can_read : (a : ℕ) (buffer : List ℕ) → (answer : Result Cost Refusal) × (after : List ℕ) × Step x (look (read a buffer answer after)) x
   can_read a buffer = (_, _, (record { answers = refl; leaves = refl }, refl))
 
-  pub can_scrub : (answer : Scrubbing) × Step x (look (scrub answer)) x
+  pub can_scrub : (answer : Result ℕ Refusal) × Step x (look (scrub answer)) x
   can_scrub = (scrubbed x.shelf x.image, (refl, refl))
 
   pub can_show_place : (d o : ℕ) → (part : List ℕ) × Step x (look (show_place d o part)) x

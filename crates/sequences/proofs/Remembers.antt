@@ -5,19 +5,18 @@ use mathlib.Core.Bool.{Bool, true, false, cond}
 use mathlib.Core.List.{List, [], ◌∷◌, ◌++◌}
 use Prim.Native.Nat.{ℕ}
 use lib.Dec.{eqb}
+use Rattle.std.specs.Prelude.{Ok, Err, Result}
 use Rattle.design.specs.declared.Loss.{Loss}
 use Rattle.design.specs.declared.Shelf.{Shelf}
 use Rattle.design.specs.declared.Refusal.{Refusal}
-use Rattle.design.specs.declared.Verdict.{Verdict}
-use Rattle.design.specs.declared.Verdict.TheVariants.{Accepted, Refused}
+use Rattle.design.specs.Refusals.{Verdict, verdict}
 use Rattle.design.specs.Loss.{no_loss, with_loss}
 use Rattle.placement.specs.Layout.{layout_in, stripe_of, j_of}
 use Rattle.parity.specs.declared.Cost.{Cost}
-use Rattle.parity.specs.declared.Losing.{Losing}
 use Rattle.parity.specs.declared.Rebuilding.{Rebuilding}
 use Rattle.parity.specs.Units.{zeros, unit_at}
 use Rattle.parity.specs.Stripe.{unit_size}
-use Rattle.parity.specs.Calls.{by, Wrote, WroteStripe, Rebuilt, lost}
+use Rattle.parity.specs.Calls.{by, Wrote, WroteStripe, Rebuilt, lost, losing_of, rebuilt_shelf}
 use Rattle.parity.proofs.By.{by_accepted, by_refused}
 use Rattle.parity.proofs.Memory.{Keeps}
 use Rattle.parity.proofs.PromisedMemory.{blank_remembers, write_remembers, stripe_write_remembers, lose_remembers, rebuild_remembers}
@@ -53,10 +52,10 @@ last_none x = refl
 
 -- what an accepted or a refused write leaves of y
 module _ {v : Verdict} (b : Bool) (x y : List ℕ) where
-  last_accepted : v ≡ Accepted → last_or y (by v (only b x) []) ≡ cond b x y
+  last_accepted : v ≡ Ok tt → last_or y (by v (only b x) []) ≡ cond b x y
   last_accepted e = ap (last_or y) (by_accepted (only b x) [] e) ∙ last_only b x y
 
-  last_refused : (r : Refusal) → v ≡ Refused r → last_or y (by v (only b x) []) ≡ y
+  last_refused : (r : Refusal) → v ≡ Err r → last_or y (by v (only b x) []) ≡ y
   last_refused r e = ap (last_or y) (by_refused (only b x) [] e) ∙ last_none y
 
 -- another memory that is the same at each address
@@ -67,32 +66,32 @@ module _ (x y : State) (memory : ℕ → List ℕ) (K : Holds x memory) where
   abbrev h : Shelf
   h = x.shelf
 
-  write_step : (a : ℕ) (unit : List ℕ) (answer : Cost) → Wrote x.shelf x.image a unit answer y.image
+  write_step : (a : ℕ) (unit : List ℕ) (answer : Result Cost Refusal) → Wrote x.shelf x.image a unit answer y.image
       → Keeps x.shelf y.image (after x.shelf memory (write a unit answer))
   unfolding written_by
-  write_step a unit answer P = by-verdict answer.verdict
+  write_step a unit answer P = by-verdict (verdict answer)
       (λ v. keeps_ext h y.image _ _ (λ b. last_accepted (eqb b a) unit (memory b) v) (write_remembers h x.image memory K a unit answer y.image P v))
       (λ r v. keeps_ext h y.image memory _ (λ b. last_refused (eqb b a) unit (memory b) r v) (rw (write_refused h x.image r a unit answer y.image v P).1 K))
 
-  stripe_step : (s : ℕ) (buffer : List ℕ) (answer : Cost) → WroteStripe x.shelf x.image s buffer answer y.image
+  stripe_step : (s : ℕ) (buffer : List ℕ) (answer : Result Cost Refusal) → WroteStripe x.shelf x.image s buffer answer y.image
       → Keeps x.shelf y.image (after x.shelf memory (write_stripe s buffer answer))
   unfolding written_by
-  stripe_step s buffer answer P = by-verdict answer.verdict
+  stripe_step s buffer answer P = by-verdict (verdict answer)
       (λ v. keeps_ext h y.image _ _ (λ b. last_accepted (eqb (stripe_of (layout_in h) b) s) (unit b) (memory b) v) (stripe_write_remembers h x.image memory K s buffer answer y.image P v))
       (λ r v. keeps_ext h y.image memory _ (λ b. last_refused (eqb (stripe_of (layout_in h) b) s) (unit b) (memory b) r v) (rw (stripe_write_refused h x.image r s buffer answer y.image v P).1 K))
     where
       unit : ℕ → List ℕ
       unit b = unit_at (unit_size h) buffer (j_of (layout_in h) b)
 
-  lose_step : (d : ℕ) (answer : Losing) → answer ≡ lost x.shelf d → Keeps answer.shelf x.image memory
-  lose_step d answer e = rw e (by-verdict (lost h d).verdict
+  lose_step : (d : ℕ) (answer : Result Shelf Refusal) → answer ≡ lost x.shelf d → Keeps (losing_of h answer) x.image memory
+  lose_step d answer e = rw e (by-verdict (verdict (lost h d))
       (λ v. lose_remembers h x.image memory K d v)
       (λ r v. rw (lose_refused h d r v) K))
 
-  rebuild_step : (answer : Rebuilding) → Rebuilt x.shelf x.image answer y.image → Keeps answer.shelf y.image memory
-  rebuild_step answer P = by-verdict answer.verdict
+  rebuild_step : (answer : Result Rebuilding Refusal) → Rebuilt x.shelf x.image answer y.image → Keeps (rebuilt_shelf h answer) y.image memory
+  rebuild_step answer P = by-verdict (verdict answer)
       (λ v. rebuild_remembers h x.image memory K answer y.image P v)
-      (λ r v. let q = rebuild_refused h x.image r answer y.image P v in rw (ap (λ (r : Rebuilding). r.shelf) q.0, q.1) K)
+      (λ r v. let q = rebuild_refused h x.image r answer y.image P v in rw (q.1, q.3) K)
 
   step_remembers : (e : Event) → Step x e y → Keeps y.shelf y.image (after x.shelf memory e)
   unfolding written_by last_or

@@ -6,19 +6,17 @@ use mathlib.Core.List.{List, [], ◌∷◌, ◌++◌}
 use Prim.Native.Nat.{ℕ, ◌<◌}
 use lib.Dec.{ltb}
 use borrow.Author.Tests.{not-true}
+use Rattle.std.specs.Prelude.{Ok, Err, Result}
 use Rattle.design.specs.declared.Refusal.{Refusal}
 use Rattle.design.specs.declared.Refusal.TheVariants.{OutOfRange, SomeLost}
 use Rattle.design.specs.declared.Shelf.{Shelf}
-use Rattle.design.specs.declared.Verdict.TheVariants.{Accepted, Refused}
-use Rattle.design.specs.Refusals.{number, first_broken}
+use Rattle.design.specs.Refusals.{number, first_broken, verdict}
 use Rattle.design.specs.Loss.{no_loss, disk_loss, is_whole}
 use Rattle.design.specs.Shelf.{is_shelf}
 use Rattle.design.proofs.Counting.{both}
 use Rattle.design.proofs.Losses.{disk-lost, whole_exactly, lost_unwhole}
-use Rattle.parity.specs.declared.Losing.{Losing}
-use Rattle.parity.specs.declared.Rebuilding.{Rebuilding}
-use Rattle.parity.specs.Calls.{lose_rules, lost}
-use Rattle.parity.proofs.By.{by_accepted}
+use Rattle.parity.specs.Calls.{lose_rules, lost, losing_of}
+use Rattle.parity.proofs.By.{by_accepted, lost_verdict}
 use Rattle.parity.proofs.Accepted.{lose_accepted}
 use Rattle.parity.proofs.Cases.{cases}
 use Rattle.parity.proofs.Refused.{lose_refused, rebuild_refused}
@@ -30,33 +28,33 @@ use Rattle.sequences.proofs.Shelves.{loss_append, run_shelf, run_loss}
 use Rattle.sequences.proofs.Remembers.{run_remembers}
 
 -- 12 where the shelf has no such disk, else 14
-second : (h : Shelf) (d : ℕ) → is_shelf h ≡ true → is_whole h.loss ≡ false → first_broken (lose_rules h d) ≡ Refused (cond (ltb d h.v) SomeLost OutOfRange)
+second : (h : Shelf) (d : ℕ) → is_shelf h ≡ true → is_whole h.loss ≡ false → first_broken (lose_rules h d) ≡ Err (cond (ltb d h.v) SomeLost OutOfRange)
 unfolding first_broken lose_rules
 second h d ok loss = rw (ok, loss) (cases (ltb d h.v) (λ t. rw t) (λ t. rw t))
 
 -- after events that leave a disk lost, declaring any disk lost is refused
-lose_while_lost : (sheet : List ℕ) (before : List Event) (x y : State) (d : ℕ) (answer : Losing) → Run sheet before x → is_whole (lost_after before) ≡ false → Step x (lose d answer) y
-    → (r : Refusal) × (answer.verdict ≡ Refused r) × (number r ≡ cond (ltb d (shelf_from sheet).v) 14 12) × (y.shelf ≡ x.shelf) × (y.image ≡ x.image)
+lose_while_lost : (sheet : List ℕ) (before : List Event) (x y : State) (d : ℕ) (answer : Result Shelf Refusal) → Run sheet before x → is_whole (lost_after before) ≡ false → Step x (lose d answer) y
+    → (r : Refusal) × (verdict answer ≡ Err r) × (number r ≡ cond (ltb d (shelf_from sheet).v) 14 12) × (y.shelf ≡ x.shelf) × (y.image ≡ x.image)
 unfolding lost number
 lose_while_lost sheet before x y d answer R now (p, s, i) =
     let r : Refusal = cond (ltb d x.shelf.v) SomeLost OutOfRange in
-    let v : (lost x.shelf d).verdict ≡ Refused r = second x.shelf d (run_remembers sheet before x R).stored.shelf (ap is_whole (run_loss sheet before x R) ∙ now) in
+    let v : verdict (lost x.shelf d) ≡ Err r = lost_verdict x.shelf d ∙ second x.shelf d (run_remembers sheet before x R).stored.shelf (ap is_whole (run_loss sheet before x R) ∙ now) in
     let same = run_shelf sheet before x R in (
       r,
-      ap (λ (l : Losing). l.verdict) p ∙ v,
+      ap verdict p ∙ v,
       rw same (cases (ltb d (shelf_from sheet).v) (λ t. rw t) (λ t. rw t)),
-      s ∙ ap (λ (l : Losing). l.shelf) p ∙ lose_refused x.shelf d r v,
+      s ∙ ap (losing_of x.shelf) p ∙ lose_refused x.shelf d r v,
       i,
     )
 
 -- which losses are accepted
-pub lose_accepted_whole : (sheet : List ℕ) (before rest : List Event) (z : State) (d : ℕ) (answer : Losing) → Run sheet (before ++ lose d answer ∷ rest) z
-    → (answer.verdict ≡ Accepted) ↔ ((d < (shelf_from sheet).v) × (lost_after before ≡ no_loss))
+pub lose_accepted_whole : (sheet : List ℕ) (before rest : List Event) (z : State) (d : ℕ) (answer : Result Shelf Refusal) → Run sheet (before ++ lose d answer ∷ rest) z
+    → (verdict answer ≡ Ok tt) ↔ ((d < (shelf_from sheet).v) × (lost_after before ≡ no_loss))
 unfolding lost
 lose_accepted_whole sheet before rest z d answer R =
     let m = moment before R in
     let x = m.here in
-    let is = ap (λ (l : Losing). l.verdict) m.step.0 in
+    let is = ap verdict m.step.0 ∙ lost_verdict x.shelf d in
     let w = lose_accepted x.shelf d in
     let same = run_shelf sheet before x m.run in
     let now = run_loss sheet before x m.run in (
@@ -71,10 +69,10 @@ shelf_stays : (x y : State) (e : Event) → is_shelf x.shelf ≡ true → is_who
 unfolding lost rebuilds
 shelf_stays x y (write a unit answer) ok loss n (p, s) = s
 shelf_stays x y (write_stripe t buffer answer) ok loss n (p, s) = s
-shelf_stays x y (lose e answer) ok loss n (p, s, i) = s ∙ ap (λ (l : Losing). l.shelf) p ∙ lose_refused x.shelf e _ (second x.shelf e ok loss)
-shelf_stays x y (rebuild answer) ok loss n (p, s) = by-verdict answer.verdict
+shelf_stays x y (lose e answer) ok loss n (p, s, i) = s ∙ ap (losing_of x.shelf) p ∙ lose_refused x.shelf e _ (lost_verdict x.shelf e ∙ second x.shelf e ok loss)
+shelf_stays x y (rebuild answer) ok loss n (p, s) = by-verdict (verdict answer)
     (λ v. absurd (true≢false (sym (by_accepted true false v) ∙ n)))
-    (λ r v. s ∙ ap (λ (l : Rebuilding). l.shelf) (rebuild_refused x.shelf x.image r answer y.image p v).0)
+    (λ r v. s ∙ (rebuild_refused x.shelf x.image r answer y.image p v).1)
 shelf_stays x y (look call) ok loss n (p, e) = ap (λ (x : State). x.shelf) e
 shelf_stays x y disturb ok loss n (p, s) = s
 
@@ -89,9 +87,9 @@ stays_lost x z (e ∷ events) ok loss n (y, (s, more)) =
 
 -- "a second loss before the rebuild is refused": after an accepted loss and other events, none of them an accepted rebuild,
 -- declaring any disk lost is refused, with 14, or with 12 if the shelf has no such disk, and changes nothing
-pub second_loss : (sheet : List ℕ) (before between : List Event) (x y : State) (d e : ℕ) (first second : Losing)
-    → Run sheet (before ++ lose d first ∷ between) x → first.verdict ≡ Accepted → no_rebuild between ≡ true → Step x (lose e second) y
-    → (r : Refusal) × (second.verdict ≡ Refused r) × (number r ≡ cond (ltb e (shelf_from sheet).v) 14 12) × (y.shelf ≡ x.shelf) × (y.image ≡ x.image)
+pub second_loss : (sheet : List ℕ) (before between : List Event) (x y : State) (d e : ℕ) (first second : Result Shelf Refusal)
+    → Run sheet (before ++ lose d first ∷ between) x → verdict first ≡ Ok tt → no_rebuild between ≡ true → Step x (lose e second) y
+    → (r : Refusal) × (verdict second ≡ Err r) × (number r ≡ cond (ltb e (shelf_from sheet).v) 14 12) × (y.shelf ≡ x.shelf) × (y.image ≡ x.image)
 unfolding loss_by
 second_loss sheet before between x y d e first second R accepted none s =
     let m = moment before R in

@@ -2,32 +2,39 @@
 use mathlib.Core.Path.{◌≡◌, refl, ap, ◌∙◌}
 use mathlib.Core.List.{List, [], ◌∷◌, ◌++◌}
 use Prim.Native.Nat.{ℕ}
+use Rattle.std.specs.Prelude.{Ok, Err}
+use Rattle.parity.specs.declared.Rebuilding.{Rebuilding}
 use Rattle.design.specs.declared.Loss.{Loss}
 use Rattle.design.specs.declared.Shelf.{Shelf}
-use Rattle.design.specs.declared.Verdict.{Verdict}
-use Rattle.design.specs.declared.Verdict.TheVariants.{Accepted, Refused}
+use Rattle.design.specs.Refusals.{Verdict, verdict, answered}
 use Rattle.design.specs.Loss.{no_loss, disk_loss, with_loss}
 use Rattle.design.specs.Sheet.{shelf_of, opened}
 use Rattle.design.proofs.Refused.{accepted_shelf}
-use Rattle.parity.specs.Calls.{by, lost}
+use Rattle.parity.specs.Calls.{by, lost, losing_of, rebuilt_shelf}
 use Rattle.sequences.specs.Sequence.{Event, write, write_stripe, lose, rebuild, look, disturb, State, Step, Steps, Run, shelf_from}
 use Rattle.sequences.specs.Lost.{loss_by, loss_from, lost_after, shelf_after}
 use Rattle.sequences.specs.Written.{written_by}
 
--- what a call hands back by its verdict
-handed : (h g : Shelf) (v : Verdict) (loss loss' : Loss) → g ≡ with_loss h loss → by v (with_loss g loss') g ≡ with_loss h (by v loss' loss)
-unfolding by
-handed h g Accepted loss loss' e = ap (λ (g : Shelf). with_loss g loss') e
-handed h g (Refused r) loss loss' e = e
+-- the shelf after a call that changes its loss, by the call's verdict
+module _ (h g : Shelf) (loss loss' : Loss) (e : g ≡ with_loss h loss) where
+  after_lose : (v : Verdict) → losing_of g (answered v (with_loss g loss')) ≡ with_loss h (by (verdict (answered v (with_loss g loss'))) loss' loss)
+  unfolding by answered
+  after_lose (Ok u) = ap (λ (g : Shelf). with_loss g loss') e
+  after_lose (Err r) = e
+
+  after_rebuild : (v : Verdict) (x : Rebuilding) → x.shelf ≡ with_loss g loss' → rebuilt_shelf g (answered v x) ≡ with_loss h (by (verdict (answered v x)) loss' loss)
+  unfolding by answered
+  after_rebuild (Ok u) x is = is ∙ ap (λ (g : Shelf). with_loss g loss') e
+  after_rebuild (Err r) x is = e
 
 pub shelf_step : (h : Shelf) (loss : Loss) (x y : State) (e : Event) → Step x e y → x.shelf ≡ with_loss h loss → y.shelf ≡ with_loss h (loss_by e loss)
 unfolding lost loss_by
 shelf_step h loss x y (write a unit answer) (p, e) S = e ∙ S
 shelf_step h loss x y (write_stripe s buffer answer) (p, e) S = e ∙ S
 shelf_step h loss x y (lose d answer) (p, e, i) S =
-    e ∙ rw p (handed h x.shelf _ loss (disk_loss d) S)
+    e ∙ rw p (after_lose h x.shelf loss (disk_loss d) S _)
 shelf_step h loss x y (rebuild answer) (p, e) S =
-    e ∙ rw p.answers (handed h x.shelf _ loss no_loss S)
+    e ∙ rw p.answers (after_rebuild h x.shelf loss no_loss S _ _ refl)
 shelf_step h loss x y (look call) (p, e) S = ap (λ (x : State). x.shelf) e ∙ S
 shelf_step h loss x y disturb (p, e) S = e ∙ S
 
@@ -43,7 +50,7 @@ loss_append loss [] e = refl
 loss_append loss (x ∷ events) e = loss_append (loss_by x loss) events e
 
 -- an opened shelf has no disk lost
-pub opened-whole : (sheet : List ℕ) → (opened sheet).verdict ≡ Accepted → shelf_from sheet ≡ with_loss (shelf_from sheet) no_loss
+pub opened-whole : (sheet : List ℕ) → verdict (opened sheet) ≡ Ok tt → shelf_from sheet ≡ with_loss (shelf_from sheet) no_loss
 unfolding shelf_of
 opened-whole sheet e = rw (accepted_shelf sheet e)
 

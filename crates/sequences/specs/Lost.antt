@@ -1,5 +1,6 @@
 -- Which disk is lost after some events: one that an accepted call declared lost, and that no accepted rebuild has restored since.
 use Rattle.std.specs.Prelude.{Bool, true, false, not, ◌&&◌, List, [], ◌∷◌, ℕ}
+use Rattle.design.specs.Refusals.{verdict}
 use Rattle.design.specs.declared.Loss.{Loss}
 use Rattle.design.specs.declared.Shelf.{Shelf}
 use Rattle.design.specs.Loss.{no_loss, disk_loss, with_loss}
@@ -10,8 +11,8 @@ use Rattle.sequences.specs.Sequence.{Event, write, write_stripe, lose, rebuild, 
 unfoldable pub loss_by : Event → Loss → Loss
 loss_by (write a unit answer) loss = loss
 loss_by (write_stripe s buffer answer) loss = loss
-loss_by (lose d answer) loss = by answer.verdict (disk_loss d) loss
-loss_by (rebuild answer) loss = by answer.verdict no_loss loss
+loss_by (lose d answer) loss = by (verdict answer) (disk_loss d) loss
+loss_by (rebuild answer) loss = by (verdict answer) no_loss loss
 loss_by (look call) loss = loss
 loss_by disturb loss = loss
 
@@ -32,7 +33,7 @@ unfoldable pub rebuilds : Event → Bool
 rebuilds (write a unit answer) = false
 rebuilds (write_stripe s buffer answer) = false
 rebuilds (lose d answer) = false
-rebuilds (rebuild answer) = by answer.verdict true false
+rebuilds (rebuild answer) = by (verdict answer) true false
 rebuilds (look call) = false
 rebuilds disturb = false
 

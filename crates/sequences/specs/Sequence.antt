@@ -1,22 +1,22 @@
 -- Sequences of calls on one sheet: "a blanked shelf, then unit and stripe writes, declarations of a lost disk and rebuilds, no
 -- further blanking, each call on what the last one left", and the calls that only look. A step is the call's own promise.
-use Rattle.std.specs.Prelude.{◌≡◌, true, List, [], ◌∷◌, ℕ, ◌<◌, length}
+use Rattle.std.specs.Prelude.{◌≡◌, true, List, [], ◌∷◌, ℕ, ◌<◌, length, Result}
+use Rattle.std.specs.Prelude.{Ok}
+use Rattle.design.specs.declared.Refusal.{Refusal}
+use Rattle.design.specs.Refusals.{verdict}
 use Rattle.design.specs.declared.Shelf.{Shelf}
-use Rattle.design.specs.declared.Verdict.TheVariants.{Accepted}
-use Rattle.design.specs.Sheet.{opened}
+use Rattle.design.specs.Sheet.{opened, opened_shelf}
 use Rattle.parity.specs.declared.Cost.{Cost}
-use Rattle.parity.specs.declared.Losing.{Losing}
 use Rattle.parity.specs.declared.Rebuilding.{Rebuilding}
-use Rattle.parity.specs.declared.Scrubbing.{Scrubbing}
 use Rattle.parity.specs.Units.{unit_at}
 use Rattle.parity.specs.Stripe.{unit_size, units, present}
-use Rattle.parity.specs.Calls.{Blanked, ReadOut, Wrote, WroteStripe, lost, Rebuilt, scrubbed, place_shown, address_shown}
+use Rattle.parity.specs.Calls.{Blanked, ReadOut, Wrote, WroteStripe, lost, Rebuilt, scrubbed, place_shown, address_shown, losing_of, rebuilt_shelf}
 
 -- a call that changes nothing that the next one meets, with its arguments and what it gives
 pub data Look : Type 0 where
   -- address, buffer, and the buffer after it
-  read : ℕ → List ℕ → Cost → List ℕ → Look
-  scrub : Scrubbing → Look
+  read : ℕ → List ℕ → Result Cost Refusal → List ℕ → Look
+  scrub : Result ℕ Refusal → Look
   -- disk, offset, and the part shown
   show_place : ℕ → ℕ → List ℕ → Look
   -- address, second buffer, and the part shown
@@ -25,12 +25,12 @@ pub data Look : Type 0 where
 -- a call with its arguments, any arguments, and its answer; or the lost disk's own bytes become anything
 pub data Event : Type 0 where
   -- address, unit
-  write : ℕ → List ℕ → Cost → Event
+  write : ℕ → List ℕ → Result Cost Refusal → Event
   -- stripe, buffer
-  write_stripe : ℕ → List ℕ → Cost → Event
+  write_stripe : ℕ → List ℕ → Result Cost Refusal → Event
   -- disk
-  lose : ℕ → Losing → Event
-  rebuild : Rebuilding → Event
+  lose : ℕ → Result Shelf Refusal → Event
+  rebuild : Result Rebuilding Refusal → Event
   look : Look → Event
   disturb : Event
 
@@ -55,8 +55,8 @@ Looked x (show_address a other part) = part ≡ address_shown x.shelf x.image a 
 abbrev pub Step : State → Event → State → Type 0
 Step x (write a unit answer) y = Wrote x.shelf x.image a unit answer y.image × (y.shelf ≡ x.shelf)
 Step x (write_stripe s buffer answer) y = WroteStripe x.shelf x.image s buffer answer y.image × (y.shelf ≡ x.shelf)
-Step x (lose d answer) y = (answer ≡ lost x.shelf d) × (y.shelf ≡ answer.shelf) × (y.image ≡ x.image)
-Step x (rebuild answer) y = Rebuilt x.shelf x.image answer y.image × (y.shelf ≡ answer.shelf)
+Step x (lose d answer) y = (answer ≡ lost x.shelf d) × (y.shelf ≡ losing_of x.shelf answer) × (y.image ≡ x.image)
+Step x (rebuild answer) y = Rebuilt x.shelf x.image answer y.image × (y.shelf ≡ rebuilt_shelf x.shelf answer)
 Step x (look call) y = Looked x call × (y ≡ x)
 Step x disturb y = Disturbed x.shelf x.image y.image × (y.shelf ≡ x.shelf)
 
@@ -67,14 +67,14 @@ Steps x (e ∷ events) z = (y : State) × (Step x e y × Steps y events z)
 
 -- the shelf that the sheet opens to
 abbrev pub shelf_from : List ℕ → Shelf
-shelf_from sheet = (opened sheet).shelf
+shelf_from sheet = opened_shelf sheet
 
 -- a blanked shelf: the sheet was accepted, and an image, whatever it held, was blanked
 pub record Start (sheet : List ℕ) (x : State) : Type 0 where
-  pub accepts : (opened sheet).verdict ≡ Accepted
+  pub accepts : verdict (opened sheet) ≡ Ok tt
   pub opens : x.shelf ≡ shelf_from sheet
   pub found : List ℕ
-  pub blanks : Blanked x.shelf found Accepted x.image
+  pub blanks : Blanked x.shelf found (Ok tt) x.image
 
 -- a sequence on the sheet, and where it ends
 pub record Run (sheet : List ℕ) (events : List Event) (end : State) : Type 0 where

@@ -1,9 +1,9 @@
 -- Which units of the image an event may change (document 01, "The shelf value and the calls").
 use Rattle.std.specs.Prelude.{◌≡◌, Bool, false, not, ◌&&◌, ◌||◌, ℕ, ◌-◌, ◌/◌, ◌<◌, eqb, length, get_or}
+use Rattle.std.specs.Prelude.{Ok, Err}
 use Rattle.design.specs.declared.Refusal.{Refusal}
 use Rattle.design.specs.declared.Shelf.{Shelf}
-use Rattle.design.specs.declared.Verdict.{Verdict}
-use Rattle.design.specs.declared.Verdict.TheVariants.{Accepted, Refused}
+use Rattle.design.specs.Refusals.{Verdict, verdict}
 use Rattle.design.specs.Loss.{with_loss}
 use Rattle.placement.specs.Layout.{layout_in, stripe_of, j_of}
 use Rattle.parity.specs.Stripe.{unit_size, unit_in, stripe_here, present}
@@ -16,21 +16,21 @@ use Rattle.sequences.specs.Lost.{loss_by}
 unfoldable pub may_change : Shelf → Event → ℕ → Bool
 may_change h (write a unit answer) n =
     let s : ℕ = stripe_of (layout_in h) a in
-    by answer.verdict ((eqb n (unit_in h s (j_of (layout_in h) a)) || eqb n (unit_in h s (h.k - 1))) && present h n) false
-may_change h (write_stripe s buffer answer) n = by answer.verdict (eqb (stripe_here h n) s && present h n) false
+    by (verdict answer) ((eqb n (unit_in h s (j_of (layout_in h) a)) || eqb n (unit_in h s (h.k - 1))) && present h n) false
+may_change h (write_stripe s buffer answer) n = by (verdict answer) (eqb (stripe_here h n) s && present h n) false
 may_change h (lose d answer) n = false
-may_change h (rebuild answer) n = by answer.verdict (not (present h n)) false
+may_change h (rebuild answer) n = by (verdict answer) (not (present h n)) false
 may_change h (look call) n = false
 may_change h disturb n = not (present h n)
 
 -- the verdict of a call that may change something
 unfoldable pub verdict_of : Event → Verdict
-verdict_of (write a unit answer) = answer.verdict
-verdict_of (write_stripe s buffer answer) = answer.verdict
-verdict_of (lose d answer) = answer.verdict
-verdict_of (rebuild answer) = answer.verdict
-verdict_of (look call) = Accepted
-verdict_of disturb = Accepted
+verdict_of (write a unit answer) = verdict answer
+verdict_of (write_stripe s buffer answer) = verdict answer
+verdict_of (lose d answer) = verdict answer
+verdict_of (rebuild answer) = verdict answer
+verdict_of (look call) = Ok tt
+verdict_of disturb = Ok tt
 
 -- what an event from x to y leaves alone: of the shelf all but the lost disk, of the image every byte that it may not change,
 -- and all, if the call is refused
@@ -39,4 +39,4 @@ pub record Spared (x : State) (e : Event) (y : State) : Type 0 where
   pub size : length y.image ≡ length x.image
   pub bytes : (i : ℕ) → i < length x.image → may_change x.shelf e (i / unit_size x.shelf) ≡ false
       → get_or y.image i 0 ≡ get_or x.image i 0
-  pub refused : (r : Refusal) → verdict_of e ≡ Refused r → y ≡ x
+  pub refused : (r : Refusal) → verdict_of e ≡ Err r → y ≡ x

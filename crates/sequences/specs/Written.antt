@@ -1,5 +1,6 @@
 -- The accepted writes at each address, in their order, and the last of them.
 use Rattle.std.specs.Prelude.{Bool, cond, List, [], ◌∷◌, ◌++◌, ℕ, eqb}
+use Rattle.design.specs.Refusals.{verdict}
 use Rattle.design.specs.declared.Shelf.{Shelf}
 use Rattle.placement.specs.Layout.{layout_in, stripe_of, j_of}
 use Rattle.parity.specs.Units.{zeros, unit_at}
@@ -13,9 +14,9 @@ only b x = cond b (x ∷ []) []
 
 -- the unit that an event writes at address a, if it is accepted; a stripe write is a write at each address of its stripe
 unfoldable pub written_by : Shelf → Event → ℕ → List (List ℕ)
-written_by h (write a' unit answer) a = by answer.verdict (only (eqb a a') unit) []
+written_by h (write a' unit answer) a = by (verdict answer) (only (eqb a a') unit) []
 written_by h (write_stripe s buffer answer) a =
-    by answer.verdict (only (eqb (stripe_of (layout_in h) a) s) (unit_at (unit_size h) buffer (j_of (layout_in h) a))) []
+    by (verdict answer) (only (eqb (stripe_of (layout_in h) a) s) (unit_at (unit_size h) buffer (j_of (layout_in h) a))) []
 written_by h (lose d answer) a = []
 written_by h (rebuild answer) a = []
 written_by h (look call) a = []

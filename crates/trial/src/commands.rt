@@ -1,243 +1,282 @@
-// The commands: the pattern that a line of each has, and what a line asks.
-use crate::words::Parsed;
-use crate::{scan, words};
+// The commands, and the words that a line of each has.
+use crate::fault::Fault;
+use crate::held::IMAGE_MOST;
+use crate::runs;
+use crate::words::{BYTES_MOST, bytes, number, number_to};
+use design::Shelf;
+use std::alloc::Global;
+use std::str::FromStr;
 
-// The commands, by the place of their pattern among those below. Commands that stand together are done alike (module steps).
-pub const FIELD_V: usize = 0;
+// The most bytes of a buffer that a shelf is written back into.
+const BACK_MOST: usize = 2048;
 
-pub const FIELD_K: usize = 1;
-
-pub const FIELD_B: usize = 2;
-
-pub const FIELD_T: usize = 3;
-
-pub const FIELD_U: usize = 4;
-
-pub const FIELD_R: usize = 5;
-
-pub const FIELD_LAMBDA: usize = 6;
-
-pub const TABLE: usize = 7;
-
-pub const LOST: usize = 8;
-
-pub const WHOLE: usize = 9;
-
-pub const IMAGE: usize = 10;
-
-pub const PUT: usize = 11;
-
-pub const REPEAT: usize = 12;
-
-pub const BYTES: usize = 13;
-
-pub const OPEN: usize = 14;
-
-pub const OPEN_PENDING: usize = 15;
-
-pub const FIELD_READ: usize = 16;
-
-pub const FIELD_WRITE: usize = 17;
-
-pub const BACK: usize = 18;
-
-pub const SHELF: usize = 19;
-
-pub const SHOW: usize = 20;
-
-pub const PLACE: usize = 21;
-
-pub const FIND: usize = 22;
-
-pub const EVERYWHERE: usize = 23;
-
-pub const RUN: usize = 24;
-
-pub const LOSE: usize = 25;
-
-pub const READ: usize = 26;
-
-pub const SCRUB: usize = 27;
-
-pub const SHOW_PLACE: usize = 28;
-
-pub const SHOW_ADDRESS: usize = 29;
-
-pub const BLANK: usize = 30;
-
-pub const WRITE: usize = 31;
-
-pub const WRITE_STRIPE: usize = 32;
-
-pub const FILL: usize = 33;
-
-pub const FILL_STRIPE: usize = 34;
-
-pub const REBUILD: usize = 35;
-// How many they are, and the number of a line that is of no pattern.
-pub const NONE: usize = 36;
-
-// What a line asks: the command, its last three numbers with c the last of all, and which word is its bytes, 0 for none.
-#[derive(Clone, Copy)]
-pub struct Call {
-    pub command: usize,
-    pub a: usize,
-    pub b: usize,
-    pub c: usize,
-    pub word: usize,
+// A number of the shelf value.
+#[derive(Clone, Copy, Debug, PartialEq, Eq)]
+pub enum Field {
+    V,
+    K,
+    B,
+    T,
+    U,
+    R,
+    Lambda,
 }
 
-fn with_number(call: Call, x: usize) -> Call {
-    Call {
-        command: call.command,
-        a: call.b,
-        b: call.c,
-        c: x,
-        word: call.word,
+// What changes the shelf value.
+#[derive(Clone, Copy, Debug, PartialEq, Eq)]
+pub enum Setting {
+    Field(Field, usize),
+    Entry(usize, u8),
+    Lost(u8),
+    Whole,
+}
+
+// What leaves shelf and image.
+#[derive(Debug, Drop)]
+pub enum Ask {
+    Read {
+        at: usize,
+        width: usize,
+        bytes: Vec<u8>,
+    },
+    Write {
+        at: usize,
+        width: usize,
+        value: usize,
+        bytes: Vec<u8>,
+    },
+    Back {
+        buffer: Vec<u8>,
+    },
+    Shelf,
+    Show,
+    Place {
+        address: usize,
+    },
+    Find {
+        disk: usize,
+        offset: usize,
+    },
+    Everywhere,
+    Run {
+        first: usize,
+        count: usize,
+    },
+}
+
+// The calls on the image that leave it.
+#[derive(Debug, Drop)]
+pub enum Look {
+    Read { address: usize, buffer: Vec<u8> },
+    Scrub,
+    ShowPlace { disk: usize, offset: usize },
+    ShowAddress { address: usize, other: Vec<u8> },
+}
+
+// The calls that may change it.
+#[derive(Debug, Drop)]
+pub enum Store {
+    Blank,
+    Write { address: usize, unit: Vec<u8> },
+    WriteStripe { stripe: usize, units: Vec<u8> },
+    Rebuild,
+}
+
+// What prints its name, and then what came back.
+#[derive(Debug, Drop)]
+pub enum Call {
+    Ask(Ask),
+    Lose { disk: usize },
+    Look(Look),
+    Store(Store),
+}
+
+#[derive(Debug, Drop)]
+pub enum Command {
+    Set(Setting),
+    Image { size: usize, byte: u8 },
+    Put { at: usize, bytes: Vec<u8> },
+    Repeat { times: usize, bytes: Vec<u8> },
+    Bytes { at: usize, count: usize },
+    Open(Vec<u8>),
+    OpenPending,
+    Call(Call),
+}
+
+impl FromStr for Field {
+    type Err = Fault;
+
+    fn from_str(name: &str) -> Result<Field, Fault> {
+        match name {
+            "v" => Ok(Field::V),
+            "k" => Ok(Field::K),
+            "b" => Ok(Field::B),
+            "T" => Ok(Field::T),
+            "u" => Ok(Field::U),
+            "r" => Ok(Field::R),
+            "lambda" => Ok(Field::Lambda),
+            _ => Err(Fault::NoCommand),
+        }
     }
 }
 
-// The number in a pattern's word, or the largest.
-fn most(asked: &[u8]) -> usize {
-    match words::decimal(asked, 2) {
-        Parsed::Value(x) => x,
-        Parsed::Wrong => usize::MAX,
-    }
-}
-
-// Takes a number in, where it is one and not too large.
-fn number(call: Call, word: &[u8], most: usize) -> Call {
-    match words::decimal(word, 1) {
-        Parsed::Value(x) => {
-            if x > most {
-                return none();
+impl Setting {
+    fn parse(words: &[&str]) -> Result<Option<Setting>, Fault> {
+        let setting = match *words {
+            ["field", name, x] => Setting::Field(name.parse()?, number(x)?),
+            ["table", i, disk] => {
+                Setting::Entry(number_to(i, Shelf::PLACES_MOST - 1)?, number(disk)?)
             }
-            with_number(call, x)
+            ["lost", disk] => Setting::Lost(number(disk)?),
+            ["whole"] => Setting::Whole,
+            _ => return Ok(None),
+        };
+        Ok(Some(setting))
+    }
+}
+
+// Bytes that all have this value, as many as the word says.
+fn filled(alloc: Global, word: &str, byte: u8) -> Result<Vec<u8>, Fault> {
+    Ok(vec![in alloc; byte; number_to(word, BYTES_MOST)?]?)
+}
+
+impl Ask {
+    fn parse(alloc: Global, words: &[&str]) -> Result<Option<Ask>, Fault> {
+        let ask = match *words {
+            ["read", at, width, word] => Ask::Read {
+                at: number(at)?,
+                width: number(width)?,
+                bytes: bytes(alloc, word)?,
+            },
+            ["write", at, width, value, word] => Ask::Write {
+                at: number(at)?,
+                width: number(width)?,
+                value: number(value)?,
+                bytes: bytes(alloc, word)?,
+            },
+            ["back", length] => Ask::Back {
+                buffer: vec![in alloc; 0xAA; number_to(length, BACK_MOST)?]?,
+            },
+            ["shelf"] => Ask::Shelf,
+            ["show"] => Ask::Show,
+            ["place", address] => Ask::Place {
+                address: number(address)?,
+            },
+            ["find", disk, offset] => Ask::Find {
+                disk: number(disk)?,
+                offset: number(offset)?,
+            },
+            ["everywhere"] => Ask::Everywhere,
+            ["run", first, count] => Ask::Run {
+                first: number(first)?,
+                count: number_to(count, runs::MOST)?,
+            },
+            _ => return Ok(None),
+        };
+        Ok(Some(ask))
+    }
+}
+
+impl Look {
+    fn parse(alloc: Global, words: &[&str]) -> Result<Option<Look>, Fault> {
+        let look = match *words {
+            ["read", address, length] => Look::Read {
+                address: number(address)?,
+                buffer: filled(alloc, length, 0xAA)?,
+            },
+            ["scrub"] => Look::Scrub,
+            ["showplace", disk, offset] => Look::ShowPlace {
+                disk: number(disk)?,
+                offset: number(offset)?,
+            },
+            ["showaddress", address, length] => Look::ShowAddress {
+                address: number(address)?,
+                other: filled(alloc, length, 0xBB)?,
+            },
+            _ => return Ok(None),
+        };
+        Ok(Some(look))
+    }
+}
+
+impl Store {
+    fn parse(alloc: Global, words: &[&str]) -> Result<Option<Store>, Fault> {
+        let store = match *words {
+            ["blank"] => Store::Blank,
+            ["write", address, word] => Store::Write {
+                address: number(address)?,
+                unit: bytes(alloc, word)?,
+            },
+            ["fill", address, length, byte] => Store::Write {
+                address: number(address)?,
+                unit: filled(alloc, length, number(byte)?)?,
+            },
+            ["writestripe", stripe, word] => Store::WriteStripe {
+                stripe: number(stripe)?,
+                units: bytes(alloc, word)?,
+            },
+            ["fillstripe", stripe, length, byte] => Store::WriteStripe {
+                stripe: number(stripe)?,
+                units: filled(alloc, length, number(byte)?)?,
+            },
+            ["rebuild"] => Store::Rebuild,
+            _ => return Ok(None),
+        };
+        Ok(Some(store))
+    }
+}
+
+impl Call {
+    fn parse(alloc: Global, words: &[&str]) -> Result<Option<Call>, Fault> {
+        if let ["lose", disk] = *words {
+            let disk = number(disk)?;
+            return Ok(Some(Call::Lose { disk }));
         }
-        Parsed::Wrong => none(),
-    }
-}
-
-fn none() -> Call {
-    Call {
-        command: NONE,
-        a: 0,
-        b: 0,
-        c: 0,
-        word: 0,
-    }
-}
-
-fn only_if(suits: bool, call: Call) -> Call {
-    if suits { call } else { none() }
-}
-
-// What a pattern's word asks for: the byte after its space.
-fn kind(asked: &[u8]) -> u8 {
-    if asked.len() < 2 {
-        return 0;
-    }
-    asked[1]
-}
-
-fn with_bytes(call: Call, n: usize) -> Call {
-    Call {
-        command: call.command,
-        a: call.a,
-        b: call.b,
-        c: call.c,
-        word: n,
-    }
-}
-
-// Takes word n of the line in, as the pattern asks.
-fn with(call: Call, n: usize, word: &[u8], asked: &[u8]) -> Call {
-    match kind(asked) {
-        b'#' => number(call, word, most(asked)),
-        b'=' => only_if(word.len() == 0, with_number(call, most(asked))),
-        b'*' => only_if(word.len() > 1, with_bytes(call, n)),
-        _ => only_if(word == asked, call),
-    }
-}
-
-// One more than the most words of a pattern, so that a longer line is found out.
-const WORDS: usize = 6;
-
-// What the line asks, by this command's pattern.
-fn read(line: &[u8], pattern: &[u8], command: usize) -> Call {
-    let mut call = Call {
-        command,
-        a: 0,
-        b: 0,
-        c: 0,
-        word: 0,
-    };
-    for n in 0..WORDS {
-        call = with(call, n, words::word(line, n), words::word(pattern, n));
-    }
-    call
-}
-
-// What the line asks, by the first pattern that it is of.
-fn first_of(line: &[u8], patterns: &[u8]) -> Call {
-    let mut call = none();
-    let mut at = 0;
-    for n in 0..NONE {
-        let end = scan::find(patterns, at, b'\n');
-        if call.command == NONE {
-            call = read(line, &patterns[at..end], n);
+        if let Some(ask) = Ask::parse(alloc, words)? {
+            return Ok(Some(Call::Ask(ask)));
         }
-        at = words::least(end + 1, patterns.len());
+        if let Some(look) = Look::parse(alloc, words)? {
+            return Ok(Some(Call::Look(look)));
+        }
+        Ok(Store::parse(alloc, words)?.map(Call::Store))
     }
-    call
 }
 
-// In a pattern `#` stands for a number, and `#N` for one that is at most N; `*` for bytes; `=N` for no word, and gives the number N;
-// any other word for itself. A command without `*` that uses bytes has b bytes of the value c.
-pub fn asked_by(line: &[u8]) -> Call {
-    let patterns = b"field v #
-field k #
-field b #
-field T #
-field u #
-field r #
-field lambda #
-table #2047 #255
-lost #255
-whole
-image #16384 #255
-put # * =0 =0
-repeat # * =0 =0
-bytes # #
-open *
-openpending
-read # # *
-write # # # *
-back #2048 =170
-shelf
-show
-place #
-find # #
-everywhere
-run # #32
-lose #
-read # #16384 =170
-scrub
-showplace # #
-showaddress # #16384 =187
-blank
-write # * =0 =0
-writestripe # * =0 =0
-fill # #16384 #255
-fillstripe # #16384 #255
-rebuild";
-    first_of(line, patterns)
-}
-
-// Puts the bytes of the line at the start of `out`, and answers how many there are; b, where the line has none.
-pub fn bytes(line: &[u8], call: Call, out: &mut [u8]) -> usize {
-    if call.word == 0 {
-        return words::least(call.b, out.len());
+impl Command {
+    // What a line asks.
+    pub fn read(alloc: Global, line: &[u8]) -> Result<Command, Fault> {
+        let text = str::from_utf8(line).map_err(|_| Fault::NoCommand)?;
+        let words = text.split(' ').collect::<Vec<&str>>(alloc)?;
+        Command::parse(alloc, words.as_slice())
     }
-    words::put(words::word(line, call.word), out)
+
+    fn parse(alloc: Global, words: &[&str]) -> Result<Command, Fault> {
+        if let Some(setting) = Setting::parse(words)? {
+            return Ok(Command::Set(setting));
+        }
+        if let Some(call) = Call::parse(alloc, words)? {
+            return Ok(Command::Call(call));
+        }
+        match *words {
+            ["image", size, byte] => Ok(Command::Image {
+                size: number_to(size, IMAGE_MOST)?,
+                byte: number(byte)?,
+            }),
+            ["put", at, word] => Ok(Command::Put {
+                at: number(at)?,
+                bytes: bytes(alloc, word)?,
+            }),
+            ["repeat", times, word] => Ok(Command::Repeat {
+                times: number(times)?,
+                bytes: bytes(alloc, word)?,
+            }),
+            ["bytes", at, count] => Ok(Command::Bytes {
+                at: number(at)?,
+                count: number(count)?,
+            }),
+            ["open", sheet] => Ok(Command::Open(bytes(alloc, sheet)?)),
+            ["openpending"] => Ok(Command::OpenPending),
+            _ => Err(Fault::NoCommand),
+        }
+    }
 }

@@ -60,40 +60,40 @@
 //
 // Any other line is printed after `? `, and so is one whose number is too large for its command.
 //
-// A new command has a pattern and a number in the module commands, and an arm in steps or images.
+// A new command has a variant and an arm in the module commands, and an arm in the module steps, values or images.
 #![tactic(auto)]
 
 mod answers;
 mod bits;
 mod commands;
+mod fault;
 mod held;
 mod images;
 mod places;
 mod print;
 mod runs;
-mod scan;
 mod sheets;
 mod steps;
 mod values;
 mod words;
 
 use held::Held;
+use std::alloc::Global;
 use std::io;
 use std::io::{BufWriter, Read, Write};
 
 // The most bytes of standard input that are read.
 const INPUT_MOST: u64 = 131072;
 
-fn run<W: Write>(to: &mut W, text: &[u8]) -> io::Result<()> {
-    let mut held = Held::new();
-    let mut at = 0;
-    while at < text.len() {
-        let end = scan::find(text, at, b'\n');
-        held = steps::step(to, held, &text[at..end])?;
-        if end == text.len() {
-            return Ok(());
-        }
-        at = end + 1;
+fn run<W: Write>(to: &mut W, alloc: Global, text: &[u8]) -> io::Result<()> {
+    let mut held = Held::new(alloc);
+    for line in text.split_inclusive(|byte| *byte == b'\n') {
+        steps::step(
+            to,
+            alloc,
+            &mut held,
+            line.strip_suffix(b"\n").unwrap_or(line),
+        )?;
     }
     Ok(())
 }
@@ -102,6 +102,6 @@ fn main(rt: HostRuntime) -> io::Result<()> {
     let mut input = Vec::new(rt.alloc());
     rt.reader().take(INPUT_MOST).read_to_end(&mut input)?;
     let mut to = BufWriter::new(rt.alloc(), io::writer(&rt))?;
-    run(&mut to, input.as_slice())?;
+    run(&mut to, rt.alloc(), input.as_slice())?;
     to.flush()
 }

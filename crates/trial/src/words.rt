@@ -1,117 +1,60 @@
-// The words of a text, and the numbers and bytes that they stand for. A word has the space before it, but for the first: so a
-// missing word is empty, and an empty one is not.
-ghost use Rattle.std.specs.Prelude.{◌*◌, ◌≤◌, ◌<◌, length};
+// What the words of a line stand for.
+ghost use Rattle.std.specs.Prelude.{◌<◌, IfSome};
 
-use crate::scan;
+use crate::fault::Fault;
+use crate::held::IMAGE_MOST;
+use std::alloc::Global;
+use std::str::FromStr;
 
-#[derive(Clone, Copy)]
-pub enum Parsed {
-    Value(usize),
-    Wrong,
-}
+// The most bytes that a word stands for: those of an image.
+pub const BYTES_MOST: usize = IMAGE_MOST;
 
-// Where word n starts, or the text's end.
-fn start(text: &[u8], n: usize) -> usize
-    ensures { result ≤ length text.now }
+// The number that a word stands for. A sign, which `parse` takes, is of none.
+pub fn number<N: FromStr>(word: &str) -> Result<N, Fault>
+where
+    N::Err: Drop,
 {
-    let mut at = 0;
-    for _ in 0..n {
-        if at == text.len() {
-            return at;
-        }
-        at = scan::find(text, at + 1, b' ');
+    if word.starts_with('+') {
+        return Err(Fault::NoCommand);
     }
-    at
+    word.parse().map_err(|_| Fault::NoCommand)
 }
 
-fn first(text: &[u8]) -> &[u8] {
-    let n = start(text, 1);
-    &text[0..n]
+// The same, where the number is not too large.
+pub fn number_to(word: &str, most: usize) -> Result<usize, Fault> {
+    let x = number(word)?;
+    if x > most {
+        return Err(Fault::NoCommand);
+    }
+    Ok(x)
 }
 
-pub fn word(text: &[u8], n: usize) -> &[u8] {
-    first(&text[start(text, n)..])
-}
-
-// What a digit stands for; 16 for any other byte.
-fn digit(byte: u8) -> usize
-    ensures { result ≤ 16 }
+fn digit(byte: u8) -> Option<u8>
+    ensures { IfSome result (λ x. x < 16) }
 {
-    scan::find(b"0123456789ABCDEF", 0, byte)
-}
-
-// The number that stands from `from` on.
-pub fn decimal(word: &[u8], from: usize) -> Parsed {
-    if word.len() <= from {
-        return Parsed::Wrong;
-    }
-    let mut value: usize = 0;
-    for i in from..word.len() {
-        let unit = digit(word[i]);
-        if unit > 9 {
-            return Parsed::Wrong;
-        }
-        if value > (usize::MAX - unit) / 10 {
-            return Parsed::Wrong;
-        }
-        value = value * 10 + unit;
-    }
-    Parsed::Value(value)
-}
-
-// The value of two digits; 256, where one is none.
-fn pair(high: u8, low: u8) -> usize {
-    let high = digit(high);
-    let low = digit(low);
-    if high / 16 + low / 16 == 0 {
-        return 16 * high + low;
-    }
-    256
-}
-
-// More bytes than there is room for: what stands for no bytes has so many.
-pub const WRONG: usize = usize::MAX;
-
-// How many bytes the word stands for, by its length.
-fn pairs(word: &[u8]) -> usize {
-    if word == b" -".as_slice() {
-        0
-    } else if word.len() % 2 == 0 {
-        WRONG
-    } else {
-        word.len() / 2
+    match byte {
+        b'0'..=b'9' => Some(byte - b'0'),
+        b'A'..=b'F' => Some(byte - b'A' + 10),
+        _ => None,
     }
 }
 
-// Puts the first n bytes of a word at the start of `out`, and answers n.
-fn put_pairs(word: &[u8], out: &mut [u8], n: usize) -> usize
-    requires n_in_bounds { n ≤ length out.old }
-    requires n_in_bounds_2 { 2 * n < length word.now }
-{
-    let mut answer = n;
-    for i in 0..n {
-        let byte = pair(word[2 * i + 1], word[2 * i + 2]);
-        out[i] = (byte % 256) as u8;
-        if byte > 255 {
-            answer = WRONG;
-        }
-    }
-    answer
+fn pair(digits: &[u8]) -> Option<u8> {
+    let [high, low] = digits else {
+        return None;
+    };
+    Some(16 * digit(*high)? + digit(*low)?)
 }
 
-// Puts the bytes that a word stands for at the start of `out`, and answers how many there are.
-pub fn put(word: &[u8], out: &mut [u8]) -> usize {
-    let n = pairs(word);
-    if n <= out.len() {
-        if n < (word.len() + 1) / 2 {
-            return put_pairs(word, out, n);
-        }
-    }
-    n
-}
-
-pub fn least(a: usize, b: usize) -> usize
-    ensures { (result ≤ a) × (result ≤ b) }
-{
-    if a < b { a } else { b }
+// The bytes that a word stands for.
+pub fn bytes(alloc: Global, word: &str) -> Result<Vec<u8>, Fault> {
+    let digits = match word {
+        "-" => "",
+        _ if word.is_empty() || word.len() > 2 * BYTES_MOST => return Err(Fault::NoCommand),
+        _ => word,
+    };
+    let pairs = digits.as_bytes().chunks(2).map(pair);
+    pairs
+        .collect::<Option<Vec<u8>>>(alloc)?
+        .ok_or(Fault::NoCommand)
 }

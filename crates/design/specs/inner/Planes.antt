@@ -1,5 +1,5 @@
 -- Counters in bit planes: lane e of n words is the number whose bit i is bit e of word i.
-use Rattle.std.specs.Prelude.{◌≡◌, cond, List, ℕ, zero, suc, ◌+◌, ◌*◌, ◌/◌, ◌%◌, ◌^◌, eqb, get_or}
+use Rattle.std.specs.Prelude.{◌≡◌, List, [], ℕ, zero, suc, ◌+◌, ◌*◌, ◌/◌, ◌%◌, ◌^◌, get_or}
 
 -- bit e of a word
 unfoldable pub bit : ℕ → ℕ → ℕ
@@ -10,13 +10,17 @@ unfoldable pub lane : (ℕ → ℕ) → ℕ → ℕ → ℕ
 lane word zero e = zero
 lane word (suc n) e = lane word n e + 2 ^ n * bit (word n) e
 
--- rows of 11 planes, one row after another: plane i of row d, and the number in lane e of row d
-abbrev pub plane_of : List ℕ → ℕ → ℕ → ℕ
-plane_of planes d i = get_or planes (d * 11 + i) 0
+-- plane i of a row of 11, and the number in lane e of the row
+abbrev pub plane_of : List ℕ → ℕ → ℕ
+plane_of row i = get_or row i 0
 
-abbrev pub counted : List ℕ → ℕ → ℕ → ℕ
-counted planes d e = lane (plane_of planes d) 11 e
+abbrev pub counted : List ℕ → ℕ → ℕ
+counted row e = lane (plane_of row) 11 e
 
--- one more in the lanes of the mask in row d, and all else as it was
-abbrev pub AddedRow : ℕ → ℕ → List ℕ → List ℕ → Type 0
-AddedRow d mask planes after = (c e : ℕ) → counted after c e ≡ counted planes c e + cond (eqb d c) (bit mask e) 0
+-- one more in the lanes of the mask
+abbrev pub AddedRow : ℕ → List ℕ → List ℕ → Type 0
+AddedRow mask row after = (e : ℕ) → counted after e ≡ counted row e + bit mask e
+
+-- row d
+abbrev pub row_of : List (List ℕ) → ℕ → List ℕ
+row_of planes d = get_or planes d []

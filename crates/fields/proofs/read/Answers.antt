@@ -1,11 +1,10 @@
--- `read` meets its contract. The loop's invariant: the value is that of the field's bits passed. The measure is what is left
--- of the width. Assumes nothing.
+-- `read` meets its contract. The loop's invariant: the value is that of the field's bits passed. Assumes nothing.
 use mathlib.Core.Path.{◌≡◌, refl, sym, ap, ◌∙◌}
 use Prim.Native.Nat.{◌+◌, ◌^◌, ◌<◌}
 use native.Mathlib.Numerals.{add-one}
 use native.Mathlib.Omega.{arith}
+use Rattle.std.specs.Prelude.{Some}
 use Rattle.fields.specs.Field.{field, bit_at, found}
-use Rattle.fields.specs.declared.Found.TheVariants as Found
 use Rattle.fields.proofs.Bits.{byte_of, place_of}
 use Rattle.fields.proofs.Writes.{Inside, field_fits}
 use Rattle.fields.proofs.Laws.{is_field_iff, found-value}
@@ -65,5 +64,5 @@ pub returns : goal.returns
 returns c =
     let args = c.args in
     let end : c.loop-i.i ≡ args.width = omega arith in
-    ap Found.Value (c.loop-i.invariant.1 ∙ ap (field args.bytes.now args.at) end)
+    ap Some (c.loop-i.invariant.1 ∙ ap (field args.bytes.now args.at) end)
     ∙ sym (found-value args.bytes.now args.at args.width (inside (goal.at.returns c).Else-not-is_field))

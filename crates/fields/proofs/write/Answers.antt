@@ -1,5 +1,5 @@
 -- `write` meets its contract. The loop's invariant: the bytes are those of entry with the value's leading bits in the part of
--- the field passed. The measure is what is left of the width. Assumes nothing.
+-- the field passed. Assumes nothing.
 use mathlib.Core.Bool.{true, false, and-false}
 use mathlib.Core.List.{List}
 use mathlib.Core.Path.{◌≡◌, refl, sym, ap, ap₂, ◌∙◌}
@@ -10,7 +10,7 @@ use native.Mathlib.Omega.{arith}
 use borrow.Author.Tests.{le-ltb}
 use lib.ListN.{length, get_or, set}
 use lib.Pow.{pow_pos, shr-shr}
-use Rattle.fields.specs.declared.Stored.TheVariants as Stored
+use Rattle.std.specs.Prelude.{Err}
 use Rattle.fields.specs.Field.{bit_at, with_bit, with_field, is_field, takes, Wrote}
 use Rattle.fields.proofs.Bits.{put_bit, byte_of, place_of}
 use Rattle.fields.proofs.Writes.{Inside, length-with_field}
@@ -29,7 +29,7 @@ too_wide bytes at w x h =
     let wide : 2 ^ w ≤ x = omega (arith, (le-div_iff_mul-le {x = 1} (pow_pos w)).0 h) in
     rw (le-ltb x (2 ^ w) wide) (and-false (is_field bytes at w))
 
-refused : (bytes : List ℕ) (at w x : ℕ) → takes bytes at w x ≡ false → Wrote bytes at w x Stored.NoField bytes
+refused : (bytes : List ℕ) (at w x : ℕ) → takes bytes at w x ≡ false → Wrote bytes at w x (Err (record {})) bytes
 refused bytes at w x e = record { answers = rw e; leaves = rw e }
 
 pub returns-then-not-is_field : goal.returns-then-not-is_field

@@ -5,6 +5,3 @@ use Rattle.fields.proofs.write.Given as goal
 
 abbrev pub invariant-loop-done : goal.invariant-loop-done
 invariant-loop-done l = (l.done ≤ l.width) × (l.bytes ≡ with_field l.initial.bytes l.at l.done (l.value / 2 ^ (l.width - l.done)))
-
-abbrev pub decreases-loop-done : goal.decreases-loop-done
-decreases-loop-done l = l.width - l.done

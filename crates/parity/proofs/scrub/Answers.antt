@@ -1,29 +1,21 @@
 -- `parity::scrub` meets its contract: the count is as the verdict says. Assumes nothing.
-use mathlib.Core.Path.{sym, ap₂, ◌∙◌}
-use Prim.Native.Nat.{ℕ}
-use Rattle.design.specs.declared.Verdict.{Verdict}
-use Rattle.parity.specs.declared.Scrubbing.{Scrubbing}
+use mathlib.Core.Path.{sym, ap}
+use Rattle.std.specs.Prelude.{Ok}
+use Rattle.design.specs.Refusals.{answered}
 use Rattle.parity.specs.Calls.{scrubbed}
-use Rattle.parity.proofs.By.{accepted_gives, refused_gives}
 use Rattle.parity.proofs.Accepted.{whole_accepted}
+use Rattle.design.proofs.Refused.{handed_err}
 use Rattle.parity.proofs.scrub.Goals as goal
 
-abbrev scrubbing : Verdict → ℕ → Scrubbing
-scrubbing v n = record { verdict = v; wrong = n }
+pub returns-in_err-checked : goal.returns-in_err-checked
+unfolding scrubbed answered
+returns-in_err-checked c = rw (sym c.in_err-checked.ensures.judged) (handed_err _ c.from_residual.ensures)
 
-pub returns-in_default : goal.returns-in_default
-unfolding scrubbed
-returns-in_default c =
-    let judged = c.of_whole-verdict.ensures in
-    ap₂ scrubbing judged (refused_gives _ _ judged c.in_default.is)
-
-pub count_wrong-wrong-requires : goal.count_wrong-wrong-requires
-count_wrong-wrong-requires c =
+pub count_wrong-requires : goal.count_wrong-requires
+count_wrong-requires c =
     let a = c.args in
-    ((whole_accepted a.shelf a.image.now).0 (sym c.of_whole-verdict.ensures ∙ c.in-Accepted.is)).stored
+    rw c.in_ok-checked.ensures.passed ((whole_accepted a.shelf a.image.now).0 (sym c.in_ok-checked.ensures.judged)).stored.size
 
 pub returns : goal.returns
-unfolding scrubbed
-returns c =
-    let judged = c.of_whole-verdict.ensures in
-    ap₂ scrubbing judged (accepted_gives _ _ judged c.in-Accepted.is c.count_wrong-wrong.ensures)
+unfolding scrubbed answered
+returns c = rw (sym c.in_ok-checked.ensures.judged) (ap Ok (rw c.in_ok-checked.ensures.passed at c.count_wrong.ensures))

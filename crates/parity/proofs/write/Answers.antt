@@ -1,17 +1,17 @@
 -- `parity::write` meets its contract: what it gives and leaves is as the verdict says. Assumes nothing.
-use mathlib.Core.Path.{sym, ◌∙◌}
-use Rattle.parity.proofs.By.{refused_answers, accepted_answers}
+use mathlib.Core.Path.{sym}
 use Rattle.parity.proofs.Accepted.{unit_accepted}
+use Rattle.design.proofs.Refused.{handed_err}
+use Rattle.parity.proofs.By.{refused_answers, accepted_answers}
 use Rattle.parity.proofs.write.Goals as goal
 
-pub returns-in_default : goal.returns-in_default
-returns-in_default c = refused_answers _ _ c.of_unit-verdict.ensures c.in_default.is
+pub returns-in_err-checked : goal.returns-in_err-checked
+returns-in_err-checked c = refused_answers _ (sym c.in_err-checked.ensures.judged) (handed_err _ c.from_residual.ensures)
 
 pub store-requires : goal.store-requires
-store-requires c = (unit_accepted _ _ _ _).0 (sym c.of_unit-verdict.ensures ∙ c.in-Accepted.is)
+store-requires c = rw c.in_ok-checked.ensures.passed ((unit_accepted _ _ _ _).0 (sym c.in_ok-checked.ensures.judged))
 
 pub returns : goal.returns
 returns c =
-    let passed = c.in-Accepted.is in
-    let done = c.store.ensures in
-    accepted_answers _ _ c.of_unit-verdict.ensures passed done.0 done.1
+    let given = rw c.in_ok-checked.ensures.passed at c.store.ensures in
+    accepted_answers _ (sym c.in_ok-checked.ensures.judged) given.0 given.1

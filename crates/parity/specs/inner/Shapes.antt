@@ -1,16 +1,12 @@
--- The numbers that the code takes of a shelf, and what it knows once the rules of a call are kept.
+-- Where the code finds the units of an address, a unit renewed, and what is known once the rules of a call are kept.
 use Rattle.std.specs.Prelude.{◌≡◌, true, List, ℕ, ◌-◌, ◌*◌, ◌<◌, length}
 use Rattle.design.specs.declared.Shelf.{Shelf}
 use Rattle.design.specs.Shelf.{is_shelf}
 use Rattle.placement.specs.Layout.{layout_in, stripes, addresses, stripe_of, j_of}
 use Rattle.parity.specs.declared.storing.Standing.{Standing}
-use Rattle.parity.specs.declared.Shape.{Shape}
 use Rattle.parity.specs.Units.{xor_sum, put}
 use Rattle.parity.specs.inner.Stores.{put_unit}
-use Rattle.parity.specs.Stripe.{unit_size, depth, image_size, unit_in, cell}
-
-abbrev pub shape_in : Shelf → Shape
-shape_in h = record { k = h.k; b = h.b; r = h.r; depth = depth h; size = unit_size h }
+use Rattle.parity.specs.Stripe.{unit_size, image_size, unit_in, cell}
 
 -- the stripe of an address and its index there, and the units of the address and of the parity in the image
 unfoldable pub standing_in : Shelf → ℕ → Standing
@@ -19,11 +15,19 @@ standing_in h a =
     let j : ℕ = j_of (layout_in h) a in
     record { stripe = s; index = j; unit = unit_in h s j; parity = unit_in h s (h.k - 1) }
 
+-- x becomes unit i of stripe s
+abbrev pub renewed : Shelf → List ℕ → ℕ → ℕ → List ℕ → List ℕ
+renewed h image s i x = put_unit (unit_size h) image (unit_in h s i) x
+
 -- the parity of stripe s becomes the exclusive-or of the data with x for data j
 unfoldable pub resealed : Shelf → List ℕ → ℕ → ℕ → List ℕ → List ℕ
-resealed h image s j x = put_unit (unit_size h) image (unit_in h s (h.k - 1)) (xor_sum (unit_size h) (put (cell h image s) j x) (h.k - 1))
+resealed h image s j x = renewed h image s (h.k - 1) (xor_sum (unit_size h) (put (cell h image s) j x) (h.k - 1))
 
--- ---- the rules that are kept
+-- there is a unit i of stripe s
+abbrev pub StripeUnit : Shelf → ℕ → ℕ → Type 0
+StripeUnit h s i = (s < stripes (layout_in h)) × (i < h.k)
+
+-- ---- the rules that are kept: facts of a shelf, an image and a buffer, of which one is lent `&mut`, so that no struct can hold them
 
 -- rules 10 and 11
 pub record Held (h : Shelf) (image : List ℕ) : Type 0 where
@@ -38,7 +42,7 @@ pub record UnitCall (h : Shelf) (image : List ℕ) (a : ℕ) (unit : List ℕ) :
 
 -- those of a unit that is data j of stripe s
 pub record DataCall (h : Shelf) (image : List ℕ) (s j : ℕ) (unit : List ℕ) : Type 0 where
-  pub stored : Held h image
+  pub size : length image ≡ image_size h
   pub stripe : s < stripes (layout_in h)
   pub index : j < h.k - 1
   pub exact : length unit ≡ unit_size h

@@ -21,6 +21,6 @@ pub number-requires : goal.number-requires
 unfolding sheet_length
 number-requires c = (is_field_iff _ _ _).1 (omega arith)
 
-pub returns : goal.returns
+pub returns-else-width-eq0 : goal.returns-else-width-eq0
 unfolding filling_zero
-returns c = rw c.number.ensures
+returns-else-width-eq0 c = rw c.number.ensures

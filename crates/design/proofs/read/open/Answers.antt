@@ -15,11 +15,11 @@ use Rattle.design.proofs.read.open.Goals as goal
 use Rattle.design.proofs.read.open.Goals.{After-within_limits, Else-not-within_limits}
 
 pub returns-then-sheet-lt6 : goal.returns-then-sheet-lt6
-returns-then-sheet-lt6 c = c.refused.ensures ∙ short _ (lt-leb _ _ c.if-sheet-lt6.true)
+returns-then-sheet-lt6 c = short _ (lt-leb _ _ c.if-sheet-lt6.true)
 
 pub returns-then-header-ne1 : goal.returns-then-header-ne1
 returns-then-header-ne1 c =
-    c.refused-then-header-ne1.ensures ∙ other_edition _ (le-leb _ _ c.if-sheet-lt6.false) (ne_eqb _ _ (λ e. c.if-header-ne1.true (c.read_header-header.ensures.0 ∙ e)))
+    other_edition _ (le-leb _ _ c.if-sheet-lt6.false) (ne_eqb _ _ (λ e. c.if-header-ne1.true (c.read_header-header.ensures.0 ∙ e)))
 
 abbrev header : After-within_limits → Header
 header c = c.read_header-header.result
@@ -41,22 +41,21 @@ tested c =
 
 pub returns-then-not-within_limits : goal.returns-then-not-within_limits
 returns-then-not-within_limits c =
-    c.refused-then-not-within_limits.ensures ∙ outside_limits _ (long (goal.at.returns-then-not-within_limits c).After-within_limits) (edition (goal.at.returns-then-not-within_limits c).After-within_limits) (sym (tested (goal.at.returns-then-not-within_limits c).After-within_limits) ∙ c.if-not-within_limits.true)
+    outside_limits _ (long (goal.at.returns-then-not-within_limits c).After-within_limits) (edition (goal.at.returns-then-not-within_limits c).After-within_limits) (sym (tested (goal.at.returns-then-not-within_limits c).After-within_limits) ∙ c.if-not-within_limits.true)
 
 within : (c : Else-not-within_limits) → let h = header (goal.at.Else-not-within_limits c).After-within_limits in Limits h.v h.k h.b h.T h.u
 within c = (limits _ _ _ _ _).0 (sym c.within_limits.ensures ∙ c.if-not-within_limits.false)
 
-pub overflow_mul-b : goal.overflow_mul-b
-overflow_mul-b c = omega (arith, (within c).places)
+pub overflow_mul-header : goal.overflow_mul-header
+overflow_mul-header c = omega (arith, (within (goal.at.overflow_mul-header c).Else-not-within_limits).places)
 
 pub sheet_length-requires : goal.sheet_length-requires
-sheet_length-requires c = (within c).places
+sheet_length-requires c = (within (goal.at.sheet_length-requires c).Else-not-within_limits).places
 
 pub returns-then-sheet-sheet_length : goal.returns-then-sheet-sheet_length
 returns-then-sheet-sheet_length c =
     let h = c.read_header-header.ensures in
-    c.refused-then-sheet-sheet_length.ensures
-    ∙ other_length _ (long (goal.at.returns-then-sheet-sheet_length c).After-within_limits) (edition (goal.at.returns-then-sheet-sheet_length c).After-within_limits) (sym (tested (goal.at.returns-then-sheet-sheet_length c).After-within_limits) ∙ c.if-not-within_limits.false)
+    other_length _ (long (goal.at.returns-then-sheet-sheet_length c).After-within_limits) (edition (goal.at.returns-then-sheet-sheet_length c).After-within_limits) (sym (tested (goal.at.returns-then-sheet-sheet_length c).After-within_limits) ∙ c.if-not-within_limits.false)
     (ne_eqb _ _ (λ q. c.if-sheet-sheet_length.true (q ∙ sym (c.sheet_length.ensures ∙ ap₂ (λ (b k : ℕ). sheet_length (b * k)) h.3 h.2))))
 
 pub open_table-requires : goal.open_table-requires

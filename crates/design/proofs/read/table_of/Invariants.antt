@@ -1,12 +1,8 @@
 use mathlib.Core.Path.{◌≡◌}
-use Prim.Native.Nat.{◌-◌, ◌≤◌}
-use lib.ListN.{length}
+use Prim.Native.Nat.{ℕ, ◌<◌}
+use lib.ListN.{length, get_or}
 use Rattle.design.specs.Sheet.{number_of}
-use Rattle.design.proofs.Reading.{Filled}
 use Rattle.design.proofs.read.table_of.Given as goal
 
 abbrev pub invariant-loop-i : goal.invariant-loop-i
-invariant-loop-i l = (l.i ≤ l.n) × (length l.table ≡ 2048) × Filled (number_of l.sheet) l.i l.table
-
-abbrev pub decreases-loop-i : goal.decreases-loop-i
-decreases-loop-i l = l.n - l.i
+invariant-loop-i l = (length l.entry-items ≡ l.n) × ((j : ℕ) → j < l.i → get_or l.entry-items j 0 ≡ number_of l.sheet j)

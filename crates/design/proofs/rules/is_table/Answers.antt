@@ -1,20 +1,18 @@
--- `design::rules::is_table` meets its contract: each test that is called is the one of the definition, and what a call requires follows from
--- the tests that passed before it. Assumes nothing.
+-- `design::rules::is_table` meets its contract: each test that is called is the one of the definition. Assumes nothing.
 use mathlib.Core.Path.{◌≡◌, sym, ◌∙◌}
 use mathlib.Core.Bool.{Bool, true, false}
 use mathlib.Core.List.{List, [], ◌∷◌}
-use Prim.Native.Nat.{ℕ, ◌*◌}
-use native.Mathlib.Nat.{mul-le-mul_left}
+use Prim.Native.Nat.{ℕ, ◌*◌, ◌≤◌}
 use native.Mathlib.Omega.{arith}
-use lib.ListN.{get_or}
+use lib.ListN.{length, get_or}
 use Rattle.design.specs.Tuples.{Design, in_table, disks_below, none_twice, disks_even, pairs_even}
 use Rattle.design.specs.Shelf.{zero_past}
 use Rattle.design.specs.inner.Table.{is_table}
-use Rattle.design.proofs.Tests.{joined, one_fails, below_flat, below_at}
-use Rattle.design.proofs.Twice.{twice, none_twice_any}
-use Rattle.design.proofs.Tallies.{even_disks, even_pairs}
+use Rattle.design.proofs.Tests.{joined, one_fails}
+use Rattle.design.proofs.ShelfTests.{zero_past_part}
+use Rattle.design.proofs.Used.{below_is, none_twice_is, disks_are, pairs_are}
 use Rattle.design.proofs.rules.is_table.Goals as goal
-use Rattle.design.proofs.rules.is_table.Goals.{After-disks_below, After-disks_even, After-none_twice, After-pairs_even, Start}
+use Rattle.design.proofs.rules.is_table.Goals.{Start, After-all_zero, After-disks_even, then-not-all_zero-via-then-not-all_zero, then-not-all_zero-via-else-not-all_zero+then-not-disks_below, then-not-all_zero-via-else-not-all_zero+else-not-disks_below+then-not-none_twice}
 
 abbrev design : Start → Design
 design s = let a = s.args in in_table a.v a.k a.b a.table.now
@@ -35,62 +33,57 @@ refused : {x : Bool} (s : Start) (i : ℕ) → x ≡ get_or (tests s) i true →
 unfolding joined
 refused s i e t = sym (one_fails (tests s) i (sym e ∙ t))
 
-kept : {x test : Bool} → x ≡ test → x ≡ true → test ≡ true
-kept e t = sym e ∙ t
+room : (s : Start) → s.args.b * s.args.k ≤ length s.args.table.now
+room s = omega (arith, s.told-table)
 
 -- ---- each answer is its test
-below_is : (c : After-disks_below) → c.disks_below.result ≡ disks_below (design (goal.at.After-disks_below c).Start)
-below_is c = let a = c.args in c.disks_below.ensures ∙ below_flat a.v a.k a.b a.table.now
-
-twice_is : (c : After-none_twice) → c.none_twice.result ≡ none_twice (design (goal.at.After-none_twice c).Start)
-twice_is c = let a = c.args in c.none_twice.ensures ∙ none_twice_any a.v a.k a.b a.table.now
+zero_is : (c : After-all_zero) → c.all_zero.result ≡ zero_past c.args.table.now (c.args.b * c.args.k)
+zero_is c = c.all_zero.ensures ∙ rw c.split_at.ensures.back (zero_past_part _ _ c.told-table)
 
 disks_is : (c : After-disks_even) → c.disks_even.result ≡ disks_even (design (goal.at.After-disks_even c).Start) c.args.r
 disks_is c =
     let a = c.args in
-    let t = c.tally-counts in
-    c.disks_even.ensures ∙ even_disks a.v a.k a.b a.table.now t.result c.requires.1 t.ensures a.r
+    let h = room (goal.at.After-disks_even c).Start in
+    disks_are a.v a.k a.b a.table.now c.split_at.result.0.now c.requires.0 h c.split_at.ensures.front c.requires.1 c.tally-counts.result c.tally-counts.ensures a.r c.disks_even.ensures
 
-pairs_is : (c : After-pairs_even) → c.pairs_even.result ≡ pairs_even (design (goal.at.After-pairs_even c).Start) c.args.lambda
-pairs_is c =
-    let a = c.args in
-    let t = c.tally-counts in
-    c.pairs_even.ensures ∙ even_pairs a.v a.k a.b a.table.now t.result c.requires.1 t.ensures a.lambda
+-- the three before them pass
+module _ (c : After-disks_even) where
+  zero : zero_past c.args.table.now (c.args.b * c.args.k) ≡ true
+  zero = sym (zero_is (goal.at.After-disks_even c).After-all_zero) ∙ c.if-not-all_zero.false
+
+  below : disks_below (design (goal.at.After-disks_even c).Start) ≡ true
+  below =
+      let h = room (goal.at.After-disks_even c).Start in
+      sym (below_is c.args.v c.args.k c.args.b c.args.table.now c.split_at.result.0.now c.requires.0 h c.split_at.ensures.front c.disks_below.ensures) ∙ c.if-not-disks_below.false
+
+  once : none_twice (design (goal.at.After-disks_even c).Start) ≡ true
+  once =
+      let h = room (goal.at.After-disks_even c).Start in
+      sym (none_twice_is c.args.v c.args.k c.args.b c.args.table.now c.split_at.result.0.now c.requires.0 h c.split_at.ensures.front c.none_twice.ensures) ∙ c.if-not-none_twice.false
 
 -- ---- the goals
-pub returns-then-not-zero_past : goal.returns-then-not-zero_past
-returns-then-not-zero_past c = refused (goal.at.returns-then-not-zero_past c).Start 0 c.zero_past.ensures c.if-not-zero_past.true
-
-pub returns-then-not-disks_below : goal.returns-then-not-disks_below
-returns-then-not-disks_below c = refused (goal.at.returns-then-not-disks_below c).Start 1 (below_is (goal.at.returns-then-not-disks_below c).After-disks_below) c.if-not-disks_below.true
-
-pub returns-then-not-none_twice : goal.returns-then-not-none_twice
-returns-then-not-none_twice c = refused (goal.at.returns-then-not-none_twice c).Start 2 (twice_is (goal.at.returns-then-not-none_twice c).After-none_twice) c.if-not-none_twice.true
-
-pub tally-counts-requires : goal.tally-counts-requires
-tally-counts-requires c =
+pub returns-then-not-all_zero : goal.returns-then-not-all_zero
+returns-then-not-all_zero c =
+    let s = (goal.at.returns-then-not-all_zero c).Start in
     let a = c.args in
-    let below = below_at a.v a.k a.b a.table.now (kept (below_is (goal.at.tally-counts-requires c).After-disks_below) c.if-not-disks_below.false) in record { k_bound = (c.requires.2, omega (arith, mul-le-mul_left a.b c.requires.0)); by_index = λ i m. omega (arith, below i m, c.requires.1); by_index_2 = (twice (design (goal.at.tally-counts-requires c).Start)).0 (kept (twice_is (goal.at.tally-counts-requires c).After-none_twice) c.if-not-none_twice.false) }
+    elim c.then-not-all_zero.branch [
+      | then-not-all_zero-via-then-not-all_zero w ↦ refused s 0 (zero_is (goal.at.returns-then-not-all_zero c).After-all_zero) w.if-not-all_zero.true
+      | then-not-all_zero-via-else-not-all_zero+then-not-disks_below w ↦
+          refused s 1 (below_is a.v a.k a.b a.table.now c.split_at.result.0.now c.requires.0 (room s) c.split_at.ensures.front w.disks_below.ensures)
+          w.if-not-disks_below.true
+      | then-not-all_zero-via-else-not-all_zero+else-not-disks_below+then-not-none_twice w ↦
+          refused s 2 (none_twice_is a.v a.k a.b a.table.now c.split_at.result.0.now c.requires.0 (room s) c.split_at.ensures.front w.none_twice.ensures)
+          w.if-not-none_twice.true
+    ]
 
-pub returns-then-not-disks_even : goal.returns-then-not-disks_even
-returns-then-not-disks_even c = refused (goal.at.returns-then-not-disks_even c).Start 3 (disks_is (goal.at.returns-then-not-disks_even c).After-disks_even) c.if-not-disks_even.true
+pub returns-then-disks_even : goal.returns-then-disks_even
+returns-then-disks_even c =
+    let d = (goal.at.returns-then-disks_even c).After-disks_even in
+    let a = c.args in
+    pairs_are a.v a.k a.b a.table.now c.split_at.result.0.now c.requires.0 (room (goal.at.returns-then-disks_even c).Start) c.split_at.ensures.front c.requires.1 c.tally-counts.result
+    c.tally-counts.ensures a.lambda c.pairs_even.ensures
+    ∙ rw (zero d, below d, once d, sym (disks_is d) ∙ c.if-disks_even.true)
 
-pub returns : goal.returns
-returns c =
-    let z = kept c.zero_past.ensures c.if-not-zero_past.false in
-    let d = kept (below_is (goal.at.returns c).After-disks_below) c.if-not-disks_below.false in
-    let n = kept (twice_is (goal.at.returns c).After-none_twice) c.if-not-none_twice.false in
-    let e = kept (disks_is (goal.at.returns c).After-disks_even) c.if-not-disks_even.false in
-    pairs_is c ∙ rw (z, d, n, e)
-
-pub disks_below-requires : goal.disks_below-requires
-disks_below-requires c = c.requires.2
-
-pub none_twice-requires : goal.none_twice-requires
-none_twice-requires c = c.requires.2
-
-pub disks_even-requires : goal.disks_even-requires
-disks_even-requires c = c.requires.1
-
-pub pairs_even-requires : goal.pairs_even-requires
-pairs_even-requires c = c.requires.1
+pub returns-else-disks_even : goal.returns-else-disks_even
+returns-else-disks_even c =
+    c.if-disks_even.false ∙ refused (goal.at.returns-else-disks_even c).Start 3 (disks_is (goal.at.returns-else-disks_even c).After-disks_even) c.if-disks_even.false

@@ -1,37 +1,37 @@
--- `design::tally::tally` meets its contract. The loop's invariant: the tuples passed are tallied.
--- The measure is the number of tuples left. Assumes nothing.
-use mathlib.Core.Path.{◌≡◌}
-use Prim.Native.Nat.{ℕ, ◌*◌, ◌+◌, ◌≤◌}
-use native.Mathlib.Nat.{mul-le-mul_right}
+-- `design::tally::tally` meets its contract. The loop's invariant: the tuples passed are tallied, and the iterator has the others left.
+-- Assumes nothing.
+use mathlib.Core.Path.{◌≡◌, sym, ◌∙◌}
+use mathlib.Core.List.{[], ◌∷◌, ◌++◌}
+use Prim.Native.Nat.{◌+◌}
 use native.Mathlib.Omega.{arith}
-use lib.ListN.{length-replicate}
-use Rattle.design.specs.Tuples.{in_table}
+use lib.ListN.{length, length-append}
+use Rattle.design.specs.inner.Tally.{disk_at, tuples_of}
+use Rattle.design.proofs.Chunks.{CutNext, cut_none, cut_next}
+use Rattle.design.proofs.Twice.{twice}
 use Rattle.design.proofs.Tallies.{tallied_none, tallied_next, shared-le}
 use Rattle.design.proofs.tally.tally.Goals as goal
-use Rattle.design.proofs.tally.tally.Goals.{In-loop-q}
 
--- tuple q stands within the table
-within : (c : In-loop-q) → c.loop-q.q * c.args.k + c.args.k ≤ c.args.b * c.args.k
-within c = omega (arith, mul-le-mul_right c.args.k c.loop-q-test.true)
+pub loop-tuple-init : goal.loop-tuple-init
+loop-tuple-init c = (cut_none _ _ _ (cc) (cc), tallied_none _)
 
-pub loop-q-init : goal.loop-q-init
-loop-q-init c = (omega arith, length-replicate {A = ℕ} 704 0, tallied_none _)
+pub tally_tuple-requires-clause-different : goal.tally_tuple-requires-clause-different
+tally_tuple-requires-clause-different c =
+    λ i j hi hj e.
+    let q = length c.loop-tuple.yielded in
+    let n : CutNext c.args.k c.args.disks.now q c.in-Some.tuple.now c.next.new.self = cut_next _ _ _ _ q c.in-Some.tuple c.requires.few.0 c.loop-tuple.invariant.0 c.in-Some.ensures.steps in
+    (twice (tuples_of c.args.k c.args.disks.now)).0 c.requires.different q n.within i j (rw n.whole at hi) (rw n.whole at hj)
+    (sym (n.same i (rw n.whole at hi)) ∙ e ∙ n.same j (rw n.whole at hj))
 
-pub overflow_mul-q : goal.overflow_mul-q
-overflow_mul-q c = omega (arith, within c)
+pub tally_tuple-requires-clause-room : goal.tally_tuple-requires-clause-room
+tally_tuple-requires-clause-room c =
+    λ d e hd he.
+    let q = length c.loop-tuple.yielded in
+    omega (arith, c.loop-tuple.invariant.1 d e hd, shared-le (tuples_of c.args.k c.args.disks.now) q d e, c.loop-tuple.invariant.0.most, c.requires.few.1)
 
-pub tally_tuple-requires : goal.tally_tuple-requires
-tally_tuple-requires c =
-    let h = within (goal.at.tally_tuple-requires c).In-loop-q in record { k_bound = (omega arith, c.loop-q.invariant.1); by_index = λ p l. c.requires.by_index (c.loop-q.q * c.args.k + p) (omega arith); different = c.requires.by_index_2 c.loop-q.q c.loop-q-test.true; by_index_2 = λ d e hd he. omega (arith, c.loop-q.invariant.2 d e hd, shared-le (in_table 0 c.args.k c.args.b c.args.table.now) c.loop-q.q d e) }
-
-pub loop-q-preserved : goal.loop-q-preserved
-loop-q-preserved c = (
-  omega arith,
-  c.tally_tuple.ensures.counts_len,
-  tallied_next 0 c.args.k c.args.b c.args.table.now c.loop-q.q c.loop-q.counts c.tally_tuple.new.counts c.loop-q.invariant.2 c.tally_tuple.ensures.added_tuple,
-)
-
-pub returns : goal.returns
-returns c =
-    let e : c.loop-q.q ≡ c.args.b = omega arith in
-    rw e at c.loop-q.invariant.2
+pub loop-tuple-preserved : goal.loop-tuple-preserved
+loop-tuple-preserved c =
+    let q = length c.loop-tuple.yielded in
+    let D = tuples_of c.args.k c.args.disks.now in
+    let n : CutNext c.args.k c.args.disks.now q c.in-Some.tuple.now c.next.new.self = cut_next _ _ _ _ q c.in-Some.tuple c.requires.few.0 c.loop-tuple.invariant.0 c.in-Some.ensures.steps in
+    let more : length (c.loop-tuple.yielded ++ c.in-Some.tuple ∷ []) ≡ q + 1 = length-append c.loop-tuple.yielded (c.in-Some.tuple ∷ []) in
+    rw more (n.after, tallied_next D q (disk_at c.in-Some.tuple.now) _ _ n.same c.loop-tuple.invariant.1 (rw n.whole at c.tally_tuple.ensures))

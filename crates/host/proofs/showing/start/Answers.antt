@@ -12,23 +12,23 @@ use Rattle.host.proofs.showing.start.Goals as goal
 use Rattle.host.proofs.showing.start.Goals.{After-offsets}
 
 -- the place is a unit of the image
-here : (c : After-offsets) → c.args.disk * c.offsets.result + c.args.offset < units c.args.shelf
-here c = rw c.offsets.ensures (digits_lt c.requires.1 c.requires.2)
+here : (c : After-offsets) → c.args.disk * c.offsets.result + c.args.offset < units c.args.checked.shelf.now
+here c = rw c.offsets.ensures (digits_lt c.requires.0 c.requires.1)
 
 pub overflow_mul-result : goal.overflow_mul-result
-overflow_mul-result c = omega (arith, here c, units_most _ c.requires.0)
+overflow_mul-result c = omega (arith, here c, units_most _ c.args.checked.passed)
 
 pub overflow_add-result : goal.overflow_add-result
-overflow_add-result c = omega (arith, here c, units_most _ c.requires.0)
+overflow_add-result c = omega (arith, here c, units_most _ c.args.checked.passed)
 
 pub overflow_shl-result : goal.overflow_shl-result
-overflow_shl-result c = omega (arith, (shelf_parts _ c.requires.0).limits.u_most)
+overflow_shl-result c = omega (arith, (shelf_parts _ c.args.checked.passed).limits.u_most)
 
 pub overflow_mul-result-2 : goal.overflow_mul-result-2
 overflow_mul-result-2 c =
-    let l : c.args.disk * c.offsets.result + c.args.offset ≤ units c.args.shelf = omega (arith, here (goal.at.overflow_mul-result-2 c).After-offsets) in
-    rw (unit-bit _ c.requires.0) (omega (arith, mul-le-mul_right (unit_size c.args.shelf) l, image_size_most _ c.requires.0))
+    let l : c.args.disk * c.offsets.result + c.args.offset ≤ units c.args.checked.shelf.now = omega (arith, here (goal.at.overflow_mul-result-2 c).After-offsets) in
+    rw (unit-bit _ c.args.checked.passed) (omega (arith, mul-le-mul_right (unit_size c.args.checked.shelf.now) l, image_size_most _ c.args.checked.passed))
 
 pub returns : goal.returns
 returns c =
-    ap₂ (λ (o U : ℕ). (c.args.disk * o + c.args.offset) * U) c.offsets.ensures (unit-bit _ c.requires.0)
+    ap₂ (λ (o U : ℕ). (c.args.disk * o + c.args.offset) * U) c.offsets.ensures (unit-bit _ c.args.checked.passed)

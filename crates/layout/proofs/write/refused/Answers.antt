@@ -1,38 +1,34 @@
 -- `layout::write::refused` meets its contract. Assumes nothing.
 use mathlib.Core.List.{[], ◌∷◌, ◌++◌}
 use native.Mathlib.Omega.{arith}
+use Rattle.std.proofs.Common.{rules}
 use Rattle.layout.specs.Text.{line_end, decimal, spaced, refused_word, refused_line}
-use Rattle.layout.specs.inner.Steps.{Fits, Put}
-use Rattle.layout.proofs.Puts.{kept_length, put_then, fits_front, fits_rest}
+use Rattle.layout.specs.inner.Steps.{Fits, Wrote}
+use Rattle.layout.proofs.Puts.{wrote_then, fits_front, fits_rest, lent_fits, begins}
 use Rattle.layout.proofs.Lengths.{refused_most}
 use Rattle.layout.proofs.write.refused.Goals as goal
-use Rattle.layout.proofs.write.refused.Goals.{After-line_end, After-spaced_number-at, Start}
+use Rattle.layout.proofs.write.refused.Goals.{After-new-pen, After-spaced}
 
--- ---- what fits, and what is written
-all_fits : (s : Start) → Fits s.args.out.now 0 (refused_line s.args.number)
-all_fits s = record { room = omega (arith, s.requires, refused_most s.args.number (omega arith)) }
+all_fits : (c : After-new-pen) → Fits c.new-pen.result (refused_line c.args.number)
+all_fits c = lent_fits c.new-pen.ensures (omega (arith, c.requires, refused_most c.args.number (omega arith)))
 
-number_fits : (s : Start) → Fits s.args.out.now 0 (refused_word ++ spaced (decimal s.args.number))
+number_fits : (c : After-new-pen) → Fits c.new-pen.result (refused_word ++ spaced (decimal c.args.number))
 unfolding refused_line
-number_fits s = fits_front (refused_word ++ spaced (decimal s.args.number)) (line_end ∷ []) (all_fits s)
+number_fits c = fits_front (refused_word ++ spaced (decimal c.args.number)) (line_end ∷ []) (all_fits c)
 
-wrote_number : (c : After-spaced_number-at) → Put c.args.out.now 0 (refused_word ++ spaced (decimal c.args.number)) c.spaced_number-at.result c.spaced_number-at.new.out
-wrote_number c = put_then (number_fits (goal.at.After-spaced_number-at c).Start) c.refused_word.ensures c.spaced_number-at.ensures
+wrote_number : (c : After-spaced) → Wrote c.new-pen.result (refused_word ++ spaced (decimal c.args.number)) c.spaced.new.self
+wrote_number c = wrote_then c.bytes.ensures c.spaced.ensures
 
-written : (c : After-line_end) → Put c.args.out.now 0 (refused_line c.args.number) c.line_end.result c.line_end.new.out
-unfolding refused_line
-written c = put_then (all_fits (goal.at.After-line_end c).Start) (wrote_number (goal.at.After-line_end c).After-spaced_number-at) c.line_end.ensures
+pub bytes-requires : goal.bytes-requires
+bytes-requires c = fits_front refused_word (spaced (decimal c.args.number)) (number_fits (goal.at.bytes-requires c).After-new-pen)
 
--- ---- the goals
-pub spaced_number-at-requires : goal.spaced_number-at-requires
-spaced_number-at-requires c = fits_rest (number_fits (goal.at.spaced_number-at-requires c).Start) c.refused_word.ensures
+pub spaced-requires : goal.spaced-requires
+spaced-requires c = fits_rest (number_fits (goal.at.spaced-requires c).After-new-pen) c.bytes.ensures
 
 pub line_end-requires : goal.line_end-requires
 unfolding refused_line
-line_end-requires c = omega (arith, (fits_rest (all_fits (goal.at.line_end-requires c).Start) (wrote_number (goal.at.line_end-requires c).After-spaced_number-at)).room)
-
-pub shape_of-out : goal.shape_of-out
-shape_of-out c = kept_length (all_fits (goal.at.shape_of-out c).Start) (written (goal.at.shape_of-out c).After-line_end)
+line_end-requires c = fits_rest (all_fits (goal.at.line_end-requires c).After-new-pen) (wrote_number (goal.at.line_end-requires c).After-spaced)
 
 pub returns : goal.returns
-returns c = written (goal.at.returns c).After-line_end
+unfolding refused_line
+returns c = begins c.new-pen.ensures (wrote_then (wrote_number (goal.at.returns c).After-spaced) c.line_end.ensures) (search rules)

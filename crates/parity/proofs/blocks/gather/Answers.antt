@@ -14,16 +14,16 @@ abbrev number : Start → ℕ → ℕ
 number start = numbered start.args.numbers.now
 
 pub overflow_mul-at : goal.overflow_mul-at
-overflow_mul-at c = omega (arith, c.requires.k_bound.1)
+overflow_mul-at c = omega (arith, c.requires.room)
 
 pub loop-q-init : goal.loop-q-init
-loop-q-init c = filled_none _ _ _ _ _ (rest_size _ _ (number (goal.at.loop-q-init c).Start) _ c.requires.within c.args.i) c.requires.k_bound.1
+loop-q-init c = filled_none _ _ _ _ _ (rest_size _ _ (number (goal.at.loop-q-init c).Start) _ c.requires.within c.args.i) c.requires.room
 
-within : (turn : In-loop-q) → Within 128 (blocks_at (number (goal.at.In-loop-q turn).Start) turn.args.per turn.loop-q.q) turn.args.k (length turn.args.row.now)
+within : (turn : In-loop-q) → Within 128 (blocks_at (number (goal.at.In-loop-q turn).Start) turn.args.per turn.loop-q.q) (length turn.args.numbers.now) (length turn.args.row.now)
 within turn = block_within 128 _ _ turn.loop-q-test.true (number (goal.at.In-loop-q turn).Start) _ _ turn.requires.within
 
 pub rest-block-requires : goal.rest-block-requires
-rest-block-requires c = record { k_bound = c.requires.k_bound.0; within = within c }
+rest-block-requires c = within c
 
 pub overflow_add-at : goal.overflow_add-at
 overflow_add-at c = omega (arith, filled_fits c.loop-q.invariant c.loop-q-test.true)

@@ -1,13 +1,13 @@
--- `parity::blocks::reparity` meets its contract. The loop's invariant: the blocks of unit k before block q are those of the exclusive-or
--- of the others but unit i and of the lent unit. Assumes nothing.
+-- `parity::blocks::reparity` meets its contract. The loop's invariant: the blocks of the last unit before block q are those of the
+-- exclusive-or of the others but unit i and of the lent unit. Assumes nothing.
 use mathlib.Core.Path.{◌≡◌, sym, ap, ◌∙◌}
-use Prim.Native.Nat.{ℕ, ◌+◌, ◌*◌, ◌≤◌}
+use Prim.Native.Nat.{ℕ, ◌+◌, ◌-◌, ◌*◌, ◌≤◌}
 use native.Mathlib.Omega.{arith}
 use lib.ListN.{length}
 use Rattle.parity.specs.Units.{unit_at, xor_u}
 use Rattle.parity.specs.inner.Blocks.{rest_of, numbered, blocks_at, Within}
 use Rattle.parity.proofs.Xor.{xor_u-length}
-use Rattle.parity.proofs.Rest.{rest_size}
+use Rattle.parity.proofs.Rest.{rest_size, front_within, front_rest}
 use Rattle.parity.proofs.ByBlocks.{block_room, block_mixed, filled_none, filled_fits, filled_within, filled-rest, filled_next, filled-all}
 use Rattle.parity.proofs.blocks.reparity.Goals as goal
 use Rattle.parity.proofs.blocks.reparity.Goals.{After-mix_out, After-rest-block, In-loop-q, Start}
@@ -15,44 +15,48 @@ use Rattle.parity.proofs.blocks.reparity.Goals.{After-mix_out, After-rest-block,
 abbrev number : Start → ℕ → ℕ
 number start = numbered start.args.numbers.now
 
--- unit k lies within the image, and so do those before it
-inside : (start : Start) → number start start.args.k * (start.args.per * 128) + start.args.per * 128 ≤ length start.args.image.now
-inside start = start.requires.within start.args.k (omega arith)
+abbrev last : Start → ℕ
+last start = length start.args.numbers.now - 1
 
-fits : (start : Start) → Within (start.args.per * 128) (number start) start.args.k (length start.args.image.now)
+-- the last unit lies within the image, and so do those before it
+inside : (start : Start) → number start (last start) * (start.args.per * 128) + start.args.per * 128 ≤ length start.args.image.now
+inside start = start.requires.within (last start) (omega arith)
+
+fits : (start : Start) → Within (start.args.per * 128) (number start) (last start) (length start.args.image.now)
 fits start j l = start.requires.within j (omega arith)
-
-pub bounds-numbers-k : goal.bounds-numbers-k
-bounds-numbers-k c = omega (arith, c.requires.k_bound)
 
 pub overflow_mul-at : goal.overflow_mul-at
 overflow_mul-at c = omega (arith, inside (goal.at.overflow_mul-at c).Start)
 
 pub loop-q-init : goal.loop-q-init
 loop-q-init c =
-    filled_none _ _ _ _ _ (xor_u-length _ _ _ (rest_size _ _ (number (goal.at.loop-q-init c).Start) _ (fits (goal.at.loop-q-init c).Start) c.args.i) c.requires.k_bound.2) (inside (goal.at.loop-q-init c).Start)
+    filled_none _ _ _ _ _ (xor_u-length _ _ _ (rest_size _ _ (number (goal.at.loop-q-init c).Start) _ (fits (goal.at.loop-q-init c).Start) c.args.i) c.requires.bounds.1) (inside (goal.at.loop-q-init c).Start)
 
-within : (turn : In-loop-q) → Within 128 (blocks_at (number (goal.at.In-loop-q turn).Start) turn.args.per turn.loop-q.q) turn.args.k (length turn.loop-q.image)
+within : (turn : In-loop-q) → Within 128 (blocks_at (number (goal.at.In-loop-q turn).Start) turn.args.per turn.loop-q.q) (last (goal.at.In-loop-q turn).Start) (length turn.loop-q.image)
 within turn = filled_within turn.loop-q.invariant (number (goal.at.In-loop-q turn).Start) _ (fits (goal.at.In-loop-q turn).Start) turn.loop-q-test.true
 
 pub rest-block-requires : goal.rest-block-requires
-rest-block-requires c = record { k_bound = omega (arith, c.requires.k_bound); within = within c }
+rest-block-requires c = front_within 128 c.args.numbers.now _ (omega arith) c.args.per c.loop-q.q _ (within (goal.at.rest-block-requires c).In-loop-q)
+
+-- the block of the data but unit i
+gathered : (c : After-rest-block) → c.rest-block.result ≡ rest_of 128 c.loop-q.image (blocks_at (number (goal.at.After-rest-block c).Start) c.args.per c.loop-q.q) c.args.i (last (goal.at.After-rest-block c).Start)
+gathered c = c.rest-block.ensures ∙ front_rest 128 c.args.numbers.now _ (omega arith) c.args.per c.loop-q.q c.loop-q.image c.args.i
 
 sized : (c : After-rest-block) → length c.rest-block.result ≡ 128
-sized c = ap length c.rest-block.ensures ∙ rest_size 128 _ _ _ (within (goal.at.After-rest-block c).In-loop-q) _
+sized c = ap length (gathered c) ∙ rest_size 128 _ _ _ (within (goal.at.After-rest-block c).In-loop-q) _
 
 pub slice_bounds-mix_out-end : goal.slice_bounds-mix_out-end
 slice_bounds-mix_out-end c = sym (sized (goal.at.slice_bounds-mix_out-end c).After-rest-block)
 
 pub mix_out-requires : goal.mix_out-requires
 mix_out-requires c =
-    rw (sized (goal.at.mix_out-requires c).After-rest-block, c.requires.k_bound.2) (omega (arith, block_room 128 _ _ c.loop-q-test.true))
+    rw (sized (goal.at.mix_out-requires c).After-rest-block, c.requires.bounds.1) (omega (arith, block_room 128 _ _ c.loop-q-test.true))
 
 -- the lent unit's block is mixed in
 mixed : (c : After-mix_out) → let a = c.args in
-    c.mix_out.new.unit ≡ unit_at 128 (xor_u (rest_of (a.per * 128) a.image.now (number (goal.at.After-mix_out c).Start) a.i a.k) a.unit.now) c.loop-q.q
+    c.mix_out.new.unit ≡ unit_at 128 (xor_u (rest_of (a.per * 128) a.image.now (number (goal.at.After-mix_out c).Start) a.i (last (goal.at.After-mix_out c).Start)) a.unit.now) c.loop-q.q
 mixed c =
-    block_mixed 128 _ _ c.loop-q-test.true _ _ (sized (goal.at.After-mix_out c).After-rest-block) (filled-rest c.loop-q.invariant (number (goal.at.After-mix_out c).Start) _ (fits (goal.at.After-mix_out c).Start) c.loop-q-test.true c.args.i c.rest-block.ensures) c.mix_out.ensures
+    block_mixed 128 _ _ c.loop-q-test.true _ _ (sized (goal.at.After-mix_out c).After-rest-block) (filled-rest c.loop-q.invariant (number (goal.at.After-mix_out c).Start) _ (fits (goal.at.After-mix_out c).Start) c.loop-q-test.true c.args.i (gathered (goal.at.After-mix_out c).After-rest-block)) c.mix_out.ensures
 
 mixed_size : (c : After-mix_out) → length c.mix_out.new.unit ≡ 128
 mixed_size c = c.mix_out.auto.unit ∙ sized (goal.at.After-mix_out c).After-rest-block

@@ -12,24 +12,21 @@ loop-j-init c = (omega arith, gathered_none refl)
 pub slice_bounds-mix_out-end : goal.slice_bounds-mix_out-end
 slice_bounds-mix_out-end c = sym c.loop-j.invariant.1.size
 
-pub bounds-numbers-j : goal.bounds-numbers-j
-bounds-numbers-j c = omega (arith, c.loop-j-test.true, c.requires.k_bound)
+pub overflow_mul-n : goal.overflow_mul-n
+overflow_mul-n c = omega (arith, c.requires _ c.loop-j-test.true)
 
-pub overflow_mul-numbers : goal.overflow_mul-numbers
-overflow_mul-numbers c = omega (arith, c.requires.within _ c.loop-j-test.true)
-
-pub overflow_add-numbers : goal.overflow_add-numbers
-overflow_add-numbers c = omega (arith, c.requires.within _ c.loop-j-test.true)
+pub overflow_add-n : goal.overflow_add-n
+overflow_add-n c = omega (arith, c.requires _ c.loop-j-test.true)
 
 pub mix_out-requires : goal.mix_out-requires
-mix_out-requires c = rw c.loop-j.invariant.1.size (c.requires.within _ c.loop-j-test.true)
+mix_out-requires c = rw c.loop-j.invariant.1.size (c.requires _ c.loop-j-test.true)
 
 pub loop-j-preserved : goal.loop-j-preserved
 loop-j-preserved c =
     let sum = c.loop-j.invariant.1 in (
       omega arith,
       elim c.if-j-i.branch [
-        | then-j-i w ↦ gathered_next sum (c.requires.within _ c.loop-j-test.true) w.if-j-i.true (w.block-is ∙ w.mix_out.ensures)
+        | then-j-i w ↦ gathered_next sum (c.requires _ c.loop-j-test.true) w.if-j-i.true (w.block-is ∙ w.mix_out.ensures)
         | else-j-i w ↦ rw w.block-is (gathered_over sum w.if-j-i.false)
       ],
     )

@@ -14,10 +14,7 @@ number start = numbered start.args.numbers.now
 
 -- unit i lies within the image
 inside : (start : Start) → number start start.args.i * (start.args.per * 128) + start.args.per * 128 ≤ length start.args.image.now
-inside start = start.requires.within _ start.requires.k_bound.1
-
-pub bounds-numbers-i : goal.bounds-numbers-i
-bounds-numbers-i c = omega (arith, c.requires.k_bound)
+inside start = start.requires.within _ start.requires.i_bound
 
 pub overflow_mul-at : goal.overflow_mul-at
 overflow_mul-at c = omega (arith, inside (goal.at.overflow_mul-at c).Start)
@@ -25,11 +22,11 @@ overflow_mul-at c = omega (arith, inside (goal.at.overflow_mul-at c).Start)
 pub loop-q-init : goal.loop-q-init
 loop-q-init c = filled_none _ _ _ _ _ (rest_size _ _ (number (goal.at.loop-q-init c).Start) _ c.requires.within c.args.i) (inside (goal.at.loop-q-init c).Start)
 
-within : (turn : In-loop-q) → Within 128 (blocks_at (number (goal.at.In-loop-q turn).Start) turn.args.per turn.loop-q.q) turn.args.k (length turn.loop-q.image)
+within : (turn : In-loop-q) → Within 128 (blocks_at (number (goal.at.In-loop-q turn).Start) turn.args.per turn.loop-q.q) (length turn.args.numbers.now) (length turn.loop-q.image)
 within turn = filled_within turn.loop-q.invariant (number (goal.at.In-loop-q turn).Start) _ turn.requires.within turn.loop-q-test.true
 
 pub rest-block-requires : goal.rest-block-requires
-rest-block-requires c = record { k_bound = c.requires.k_bound.0; within = within c }
+rest-block-requires c = within c
 
 pub overflow_add-at : goal.overflow_add-at
 overflow_add-at c = omega (arith, filled_fits c.loop-q.invariant c.loop-q-test.true)

@@ -1,16 +1,16 @@
--- `parity::bytes::is_zero` meets its contract. The loop's invariant: `any` is zero exactly when the bytes before i are. Assumes nothing.
-use mathlib.Core.Path.{refl}
-use native.Mathlib.Omega.{arith}
-use Rattle.parity.specs.Units.{is_zero}
-use Rattle.parity.proofs.Writing.{zero_next, zero_all}
+-- `parity::bytes::is_zero` meets its contract: all bytes joined are zero exactly when each is. Assumes nothing.
+use mathlib.Core.Path.{◌≡◌, ap, ◌∙◌}
+use lib.Bits.{bit_or}
+use lib.Dec.{eqb}
+use Prim.Native.Nat.{ℕ}
+use borrow.Author.Rules.{rules}
+use Rattle.std.specs.List.{fold}
+use Rattle.parity.proofs.Writing.{zero_joined}
 use Rattle.parity.proofs.bytes.is_zero.Goals as goal
+use Rattle.parity.proofs.bytes.is_zero.Goals.{After-fold}
 
-pub loop-i-init : goal.loop-i-init
-unfolding is_zero
-loop-i-init c = (omega arith, refl)
-
-pub loop-i-preserved : goal.loop-i-preserved
-loop-i-preserved c = (omega arith, zero_next _ c.loop-i.any _ c.loop-i-test.true c.loop-i.invariant.1)
+joined : (c : After-fold) → c.fold.result ≡ fold bit_or 0 c.args.bytes.now
+joined c = search rules
 
 pub returns : goal.returns
-returns c = zero_all _ c.loop-i.any _ c.loop-i-test.false c.loop-i.invariant.1
+returns c = ap (λ (x : ℕ). eqb x 0) (joined c) ∙ zero_joined 0 c.args.bytes.now

@@ -1,4 +1,3 @@
-use Prim.Native.Nat.{◌-◌}
 use lib.ListN.{length}
 use Rattle.design.proofs.Writing.{Begun}
 use Rattle.parity.specs.Units.{xor_u}
@@ -6,6 +5,3 @@ use Rattle.parity.proofs.bytes.mix.Given as goal
 
 abbrev pub invariant-loop-i : goal.invariant-loop-i
 invariant-loop-i l = Begun l.initial.to 0 (xor_u l.initial.to l.from) (length l.initial.to) l.to l.i
-
-abbrev pub decreases-loop-i : goal.decreases-loop-i
-decreases-loop-i l = length l.initial.to - l.i

@@ -1,138 +1,144 @@
 -- `parity::large::store_stripe` meets its contract. The loop's invariant: the data before unit i are written and counted, the lost one
 -- left out. Assumes nothing.
-use mathlib.Core.Path.{◌≡◌, sym, ◌∙◌}
-use Prim.Native.Nat.{◌+◌, ◌-◌, ◌*◌, ◌≤◌}
+use mathlib.Core.Path.{◌≡◌, refl, sym, ap, ◌∙◌}
+use Prim.Native.Nat.{◌+◌, ◌-◌, ◌<◌}
 use native.Mathlib.Omega.{arith}
 use lib.ListN.{length}
-use borrow.Rule.Slice.PartMut.{mid_of}
-use Rattle.parity.proofs.Put.{part-unit, part_size}
-use Rattle.parity.proofs.Prepared.{number_asks}
-use Rattle.parity.proofs.StripeTurns.{Task, Begun, task_short, task_exact, task_inside, task_two, task_few, begun_few, begun_none, begun_size, begun_fits, begun_put, begun_skip, begun_all, data_unit, parity-unit}
+use lib.Pow.{pow_pos}
+use Rattle.design.proofs.ShelfTests.{shelf_parts}
+use Rattle.parity.specs.Units.{unit_at}
+use Rattle.parity.specs.Stripe.{unit_size, unit_in}
+use Rattle.parity.specs.Calls.{with_parity}
+use Rattle.parity.proofs.Chunks.{left_all, next_is, next_below, left_next, left_over}
+use Rattle.parity.proofs.StripeTurns.{Begun, call_two, begun_few, begun_none, begun_size, begun_fits, begun_put, begun_skip, begun_all, data_unit, parity-unit}
 use Rattle.parity.proofs.large.store_stripe.Goals as goal
-use Rattle.parity.proofs.large.store_stripe.Goals.{After-loop-i, After-seal, After-shape_of-shape, Else-is_present-2, In-loop-i, then-is_present, else-is_present}
+use Rattle.parity.proofs.large.store_stripe.Goals.{After-of-stripes, In-Some, In-None, After-number-n, After-number-parity, After-seal, Else-is_present-2}
 
-pub ranks_of-ranks-requires : goal.ranks_of-ranks-requires
-ranks_of-ranks-requires c = c.requires.stored.shelf
+-- ---- before the first unit
 
-pub shape_of-shape-requires : goal.shape_of-shape-requires
-shape_of-shape-requires c = c.requires.stored.shelf
+sized : (c : After-of-stripes) → c.of-stripes.result.size ≡ unit_size c.args.checked.shelf.now
+sized c = c.of-stripes.result.sized ∙ ap unit_size c.of-stripes.ensures
 
-task : (c : After-shape_of-shape)
-    → let a = c.args in Task a.shelf a.image.now a.s a.buffer.now c.ranks_of-ranks.result c.shape_of-shape.result
-task c =
-    let pre = c.requires in
-    record {
-      ready = record { held = pre.stored; ranked = c.ranks_of-ranks.ensures; shaped = c.shape_of-shape.ensures };
-      below = pre.stripe;
-      exact = pre.exact;
-    }
-
-pub overflow_sub-i-end : goal.overflow_sub-i-end
-overflow_sub-i-end c = omega (arith, task_two (task (goal.at.overflow_sub-i-end c).After-shape_of-shape))
+pub chunks_exact-requires : goal.chunks_exact-requires
+chunks_exact-requires c = rw (sized c) (pow_pos c.args.checked.shelf.now.u)
 
 pub loop-i-init : goal.loop-i-init
-loop-i-init c = (omega arith, begun_none (task (goal.at.loop-i-init c).After-shape_of-shape))
+loop-i-init c =
+    let start = c.into_iter-i-iterator.ensures.into_iter_gives in
+    let counted = c.enumerate-i-items.ensures in
+    let chunks = c.chunks_exact.ensures in
+    rw (start, counted.source, counted.count, chunks.size, chunks.rest, sized (goal.at.loop-i-init c).After-of-stripes)
+    (refl, left_all (unit_size c.args.checked.shelf.now) c.args.buffer.now, begun_none c.requires)
 
 -- ---- a turn
+
+abbrev Turn : In-Some → Type 0
+Turn c =
+    let h = c.args.checked.shelf.now in
+    (c.in-Some.i ≡ c.loop-i.i-iterator.count) × (c.in-Some.i < h.k - 1) × (length c.in-Some.unit.now ≡ unit_size h) × (c.in-Some.unit.now ≡ unit_at (unit_size h) c.args.buffer.now c.in-Some.i)
+
+turn : (c : In-Some) → Turn c
+turn c =
+    let h = c.args.checked.shelf.now in
+    let inv = c.loop-i.invariant in
+    let step = c.in-Some.ensures.steps in
+    let i = step.1 in
+    let size : length c.in-Some.unit.now ≡ unit_size h = step.0.1.1 ∙ inv.0 in
+    (i, rw i (next_below inv.1 _ _ step.0.1.0 size (h.k - 1) (pow_pos h.u) c.requires.exact), size, rw i (next_is inv.1 _ _ step.0.1.0 size))
+
 pub number-n-requires : goal.number-n-requires
-number-n-requires c = let t = task (goal.at.number-n-requires c).After-shape_of-shape in number_asks t.ready t.below (omega arith)
+number-n-requires c =
+    rw c.of-stripes.ensures (c.requires.stripe, omega (arith, (turn (goal.at.number-n-requires c).In-Some).1))
 
-pub is_present-requires : goal.is_present-requires
-is_present-requires c = c.requires.stored.shelf
-
--- data i lies within the buffer
-inside : (c : In-loop-i) → let U = c.shape_of-shape.result.size in
-    c.loop-i.i * U + U ≤ length c.args.buffer.now
-inside c = task_inside (task (goal.at.In-loop-i c).After-shape_of-shape) c.loop-i.i c.loop-i-test.true
-
-pub overflow_mul-at : goal.overflow_mul-at
-overflow_mul-at c = omega (arith, inside (goal.at.overflow_mul-at c).In-loop-i, task_short (task (goal.at.overflow_mul-at c).After-shape_of-shape))
-
-pub overflow_add-at : goal.overflow_add-at
-overflow_add-at c = omega (arith, inside (goal.at.overflow_add-at c).In-loop-i, task_short (task (goal.at.overflow_add-at c).After-shape_of-shape))
-
-pub slice_bounds-store-end : goal.slice_bounds-store-end
-slice_bounds-store-end c = omega (arith, inside (goal.at.slice_bounds-store-end c).In-loop-i)
-
--- the part that is lent has the size of a unit
-lent : (c : In-loop-i) → let U = c.shape_of-shape.result.size in
-    length (mid_of (c.loop-i.i * U) (c.loop-i.i * U + U - c.loop-i.i * U) c.args.buffer.now) ≡ U
-lent c = part_size c.shape_of-shape.result.size _ c.loop-i.i (inside c)
+numbered : (c : After-number-n) → c.number-n.result ≡ unit_in c.args.checked.shelf.now c.args.s c.loop-i.i-iterator.count
+numbered c =
+    c.number-n.ensures ∙ (rw (c.of-stripes.ensures, (turn (goal.at.After-number-n c).In-Some).0) refl)
 
 pub store-requires : goal.store-requires
 store-requires c =
-    rw (lent (goal.at.store-requires c).In-loop-i) (begun_fits (task (goal.at.store-requires c).After-shape_of-shape) c.loop-i.invariant.1 (omega arith) c.number-n.ensures)
+    let t = turn (goal.at.store-requires c).In-Some in
+    rw t.2 (begun_fits c.requires c.loop-i.invariant.2 (omega (arith, t.0, t.1)) (numbered (goal.at.store-requires c).After-number-n))
 
 pub overflow_add-written : goal.overflow_add-written
-overflow_add-written c =
-    omega (arith, begun_few c.loop-i.invariant.1)
+overflow_add-written c = let t = turn (goal.at.overflow_add-written c).In-Some in omega (arith, begun_few c.loop-i.invariant.2, t.0, t.1, (shelf_parts _ c.requires.stored.shelf).limits.k_most)
+
+pub loop-i-preserved-then-is_present : goal.loop-i-preserved-then-is_present
+loop-i-preserved-then-is_present c =
+    let inv = c.loop-i.invariant in
+    let step = c.in-Some.ensures.steps in
+    let t = turn (goal.at.loop-i-preserved-then-is_present c).In-Some in
+    rw step.2 (
+      step.0.0 ∙ inv.0,
+      left_next inv.1 _ _ step.0.1.0 t.2,
+      begun_put c.requires inv.2 (omega (arith, t.0, t.1)) (numbered (goal.at.loop-i-preserved-then-is_present c).After-number-n)
+          (sym c.is_present.ensures ∙ c.if-is_present.true)
+          (t.3 ∙ data_unit c.requires _ t.1 ∙ ap (with_parity c.args.checked.shelf.now c.args.buffer.now) t.0)
+          (rw t.2 at c.store.ensures),
+    )
 
 pub loop-i-preserved : goal.loop-i-preserved
 loop-i-preserved c =
-    let t = task (goal.at.loop-i-preserved c).After-shape_of-shape in
-    let B = c.loop-i.invariant.1 in
-    let e = c.number-n.ensures in (
-      omega arith,
-      elim c.if-is_present.branch [
-        | then-is_present w ↦ rw w.written-is (begun_put t B (omega arith) e (sym c.is_present.ensures ∙ w.if-is_present.true)
-            (part-unit _ _ c.loop-i.i ∙ data_unit t c.loop-i.i c.loop-i-test.true) (w.image-is ∙ (rw (lent (goal.at.loop-i-preserved c).In-loop-i) at w.store.ensures)))
-        | else-is_present w ↦ rw (w.image-is, w.written-is) (begun_skip t B (omega arith) e (sym c.is_present.ensures ∙ w.if-is_present.false))
-      ],
+    let inv = c.loop-i.invariant in
+    let step = c.in-Some.ensures.steps in
+    let t = turn (goal.at.loop-i-preserved c).In-Some in
+    rw step.2 (
+      step.0.0 ∙ inv.0,
+      left_next inv.1 _ _ step.0.1.0 t.2,
+      begun_skip c.requires inv.2 (omega (arith, t.0, t.1)) (numbered (goal.at.loop-i-preserved c).After-number-n) (sym c.is_present.ensures ∙ c.if-is_present.false),
     )
 
 -- ---- the parity
 
 -- all data are written
-at-end : (c : After-loop-i) → let a = c.args in
-    Begun a.shelf a.image.now a.s a.buffer.now (a.shelf.k - 1) c.loop-i.image c.loop-i.written
+at-end : (c : In-None) → let a = c.args in
+    Begun a.checked.shelf.now a.image.now a.s a.buffer.now (a.checked.shelf.now.k - 1) c.loop-i.image c.loop-i.written
 at-end c =
-    let all : c.loop-i.i ≡ c.args.shelf.k - 1 = omega (arith, c.loop-i.invariant.0, c.loop-i-test.false) in
-    rw all at c.loop-i.invariant.1
+    let inv = c.loop-i.invariant in
+    let few = c.in-None.ensures.steps.0.1.0 in
+    rw (left_over inv.1 (c.args.checked.shelf.now.k - 1) (pow_pos c.args.checked.shelf.now.u) c.requires.exact (omega (arith, few, inv.0))) at inv.2
 
-pub overflow_sub-last : goal.overflow_sub-last
-overflow_sub-last c = omega (arith, task_two (task (goal.at.overflow_sub-last c).After-shape_of-shape))
+pub overflow_sub-checked : goal.overflow_sub-checked
+overflow_sub-checked c = omega (arith, call_two c.requires)
 
 pub number-parity-requires : goal.number-parity-requires
-number-parity-requires c = let t = task (goal.at.number-parity-requires c).After-shape_of-shape in number_asks t.ready t.below (omega (arith, task_two t))
+number-parity-requires c = rw c.of-stripes.ensures (c.requires.stripe, omega (arith, call_two c.requires))
 
-pub is_present-requires-2 : goal.is_present-requires-2
-is_present-requires-2 c = c.requires.stored.shelf
+sealed_at : (c : After-number-parity) → c.number-parity.result ≡ unit_in c.args.checked.shelf.now c.args.s (c.args.checked.shelf.now.k - 1)
+sealed_at c = c.number-parity.ensures ∙ (rw c.of-stripes.ensures refl)
 
 pub seal-requires : goal.seal-requires
 seal-requires c =
-    let t = task (goal.at.seal-requires c).After-shape_of-shape in
-    (omega (arith, task_two t, task_few t), begun_fits t (at-end (goal.at.seal-requires c).After-loop-i) (omega (arith, task_two t)) c.number-parity.ensures, task_exact t)
+    rw c.of-stripes.ensures
+    (record { unit = begun_fits c.requires (at-end (goal.at.seal-requires c).In-None) (omega (arith, call_two c.requires)) (sealed_at (goal.at.seal-requires c).After-number-parity); buffer = c.requires.exact })
 
 pub overflow_add-written-then-is_present-2 : goal.overflow_add-written-then-is_present-2
 overflow_add-written-then-is_present-2 c =
-    omega (arith, begun_few (at-end (goal.at.overflow_add-written-then-is_present-2 c).After-loop-i))
+    omega (arith, begun_few (at-end (goal.at.overflow_add-written-then-is_present-2 c).In-None), (shelf_parts _ c.requires.stored.shelf).limits.k_most)
 
 -- the parity is written too
 sealed : (c : After-seal) → let a = c.args in
-    Begun a.shelf a.image.now a.s a.buffer.now (a.shelf.k - 1 + 1) c.seal.new.image (c.loop-i.written + 1)
+    Begun a.checked.shelf.now a.image.now a.s a.buffer.now (a.checked.shelf.now.k - 1 + 1) c.seal.new.image (c.loop-i.written + 1)
 sealed c =
-    let t = task (goal.at.After-seal c).After-shape_of-shape in
-    begun_put t (at-end (goal.at.After-seal c).After-loop-i) (omega (arith, task_two t)) c.number-parity.ensures (sym c.is_present-2.ensures ∙ c.if-is_present-2.true) (parity-unit t) c.seal.ensures
+    let t = c.requires in
+    begun_put t (at-end (goal.at.After-seal c).In-None) (omega (arith, call_two t)) (sealed_at (goal.at.After-seal c).After-number-parity)
+    (sym c.is_present-2.ensures ∙ c.if-is_present-2.true) (parity-unit t) (rw c.of-stripes.ensures at c.seal.ensures)
 
 pub shape_of-image-then-is_present-2 : goal.shape_of-image-then-is_present-2
-shape_of-image-then-is_present-2 c =
-    begun_size (task (goal.at.shape_of-image-then-is_present-2 c).After-shape_of-shape) (sealed (goal.at.shape_of-image-then-is_present-2 c).After-seal)
+shape_of-image-then-is_present-2 c = begun_size c.requires (sealed (goal.at.shape_of-image-then-is_present-2 c).After-seal)
 
 pub returns-then-is_present-2 : goal.returns-then-is_present-2
-returns-then-is_present-2 c =
-    begun_all (task (goal.at.returns-then-is_present-2 c).After-shape_of-shape) (sealed (goal.at.returns-then-is_present-2 c).After-seal)
+returns-then-is_present-2 c = begun_all c.requires (sealed (goal.at.returns-then-is_present-2 c).After-seal)
 
 -- the parity is left out
 unsealed : (c : Else-is_present-2) → let a = c.args in
-    Begun a.shelf a.image.now a.s a.buffer.now (a.shelf.k - 1 + 1) c.loop-i.image c.loop-i.written
+    Begun a.checked.shelf.now a.image.now a.s a.buffer.now (a.checked.shelf.now.k - 1 + 1) c.loop-i.image c.loop-i.written
 unsealed c =
-    let t = task (goal.at.Else-is_present-2 c).After-shape_of-shape in
-    begun_skip t (at-end (goal.at.Else-is_present-2 c).After-loop-i) (omega (arith, task_two t)) c.number-parity.ensures (sym c.is_present-2.ensures ∙ c.if-is_present-2.false)
+    let t = c.requires in
+    begun_skip t (at-end (goal.at.Else-is_present-2 c).In-None) (omega (arith, call_two t)) (sealed_at (goal.at.Else-is_present-2 c).After-number-parity)
+    (sym c.is_present-2.ensures ∙ c.if-is_present-2.false)
 
 pub shape_of-image-else-is_present-2 : goal.shape_of-image-else-is_present-2
-shape_of-image-else-is_present-2 c =
-    begun_size (task (goal.at.shape_of-image-else-is_present-2 c).After-shape_of-shape) c.loop-i.invariant.1
+shape_of-image-else-is_present-2 c = begun_size c.requires c.loop-i.invariant.2
 
 pub returns-else-is_present-2 : goal.returns-else-is_present-2
-returns-else-is_present-2 c =
-    begun_all (task (goal.at.returns-else-is_present-2 c).After-shape_of-shape) (unsealed c)
+returns-else-is_present-2 c = begun_all c.requires (unsealed c)

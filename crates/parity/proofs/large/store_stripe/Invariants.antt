@@ -1,9 +1,11 @@
-use Prim.Native.Nat.{◌-◌, ◌≤◌}
+use mathlib.Core.Path.{◌≡◌}
+use Rattle.parity.specs.Stripe.{unit_size}
+use Rattle.parity.proofs.Chunks.{Left}
 use Rattle.parity.proofs.StripeTurns.{Begun}
 use Rattle.parity.proofs.large.store_stripe.Given as goal
 
 abbrev pub invariant-loop-i : goal.invariant-loop-i
-invariant-loop-i l = (l.i ≤ l.shelf.k - 1) × Begun l.shelf l.initial.image l.s l.buffer l.i l.image l.written
-
-abbrev pub decreases-loop-i : goal.decreases-loop-i
-decreases-loop-i l = l.shelf.k - 1 - l.i
+invariant-loop-i l =
+    (l.i-iterator.iter.size ≡ unit_size l.checked.shelf.now)
+    × Left (unit_size l.checked.shelf.now) l.buffer l.i-iterator.count l.i-iterator.iter.rest.now
+    × Begun l.checked.shelf.now l.initial.image l.s l.buffer l.i-iterator.count l.image l.written

@@ -2,10 +2,10 @@
 use Rattle.design.specs.Loss.{lost_in}
 use Rattle.parity.proofs.presence.is_lost.Goals as goal
 
-pub returns-in-Nothing : goal.returns-in-Nothing
+pub returns-in-None : goal.returns-in-None
 unfolding lost_in
-returns-in-Nothing c = rw (c.in-Nothing.is, lost_in)
+returns-in-None c = rw (c.in-None.is, lost_in)
 
-pub returns-in-Disk : goal.returns-in-Disk
+pub returns-in-Some : goal.returns-in-Some
 unfolding lost_in
-returns-in-Disk c = rw (c.in-Disk.is, lost_in)
+returns-in-Some c = rw (c.in-Some.is, lost_in)

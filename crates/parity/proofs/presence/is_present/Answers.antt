@@ -6,7 +6,7 @@ use Rattle.parity.proofs.Home.{depth_pos}
 use Rattle.parity.proofs.presence.is_present.Goals as goal
 
 pub nonzero_div-n : goal.nonzero_div-n
-nonzero_div-n c = rw c.offsets.ensures (depth_pos _ c.requires)
+nonzero_div-n c = rw c.offsets.ensures (depth_pos _ c.args.checked.passed)
 
 pub returns : goal.returns
 unfolding present

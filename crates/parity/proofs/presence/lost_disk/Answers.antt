@@ -1,15 +1,20 @@
--- `parity::presence::lost_disk` meets its contract: each arm is told the loss. Assumes nothing.
-use mathlib.Core.Path.{refl}
-use mathlib.Core.Bool.{true≢false}
+-- `parity::presence::lost_disk` meets its contract: a disk is lost, since the loss is not that of none. Assumes nothing.
+use mathlib.Core.Path.{◌≡◌, refl}
+use mathlib.Core.Bool.{false, true≢false}
 use Prim.Native.Nat.{ℕ}
 use borrow.Author.Tests.{eq-eqb}
+use Rattle.std.specs.Prelude.{Option, Some, None, IsSome}
 use Rattle.design.specs.Loss.{is_whole, lost_in}
 use Rattle.parity.proofs.presence.lost_disk.Goals as goal
 
-pub returns-in-Nothing : goal.returns-in-Nothing
+some : (x : Option ℕ) → is_whole (record { lost = x }) ≡ false → IsSome x
 unfolding is_whole
-returns-in-Nothing c = absurd (true≢false (rw (c.in-Nothing.is, is_whole) at c.requires))
+some None e = absurd (true≢false e)
+some (Some d) e = refl
 
-pub returns-in-Disk : goal.returns-in-Disk
+pub unwrap-requires : goal.unwrap-requires
+unwrap-requires c = some _ c.requires
+
+pub returns : goal.returns
 unfolding lost_in
-returns-in-Disk c = let d : ℕ = c.in-Disk.disk in rw (c.in-Disk.is, lost_in) (eq-eqb d d refl)
+returns c = rw (c.unwrap.ensures, lost_in) (eq-eqb _ _ refl)

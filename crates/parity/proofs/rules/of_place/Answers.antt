@@ -1,67 +1,75 @@
 -- `parity::rules::of_place` meets its contract: the rules of an image, then rule after rule. Assumes nothing.
 use mathlib.Core.Path.{◌≡◌, refl, sym, ap, ◌∙◌}
-use mathlib.Core.Bool.{true}
+use mathlib.Core.Bool.{Bool}
 use mathlib.Core.List.{[], ◌∷◌, ◌++◌}
-use Prim.Native.Nat.{◌+◌, ◌*◌, ◌<◌}
+use Prim.Native.Nat.{ℕ, ◌<◌}
 use lib.Dec.{ltb}
 use borrow.Author.Tests.{ltb-true}
+use Rattle.design.specs.declared.Refusal.TheVariants.{OutOfRange, SomeLost}
 use Rattle.design.specs.Refusals.{first_broken}
-use Rattle.design.specs.Shelf.{is_shelf}
 use Rattle.design.proofs.Counting.{both}
 use Rattle.parity.specs.Stripe.{depth, present}
-use Rattle.parity.specs.Calls.{place_rules, place_rule, present_rule}
-use Rattle.parity.specs.inner.Judged.{image_rules}
+use Rattle.parity.specs.Calls.{disk_rule, place_rule, place_rules}
+use Rattle.parity.specs.inner.Judged.{image_rules, rule_of}
 use Rattle.parity.proofs.Accepted.{rule_kept}
-use Rattle.parity.proofs.Verdicts.{shelf-passed, also_rule, two_as_one, refused_already}
+use Rattle.parity.proofs.Verdicts.{hands, hands_back, goes_on, two_as_one}
 use Rattle.parity.proofs.rules.of_place.Goals as goal
-use Rattle.parity.proofs.rules.of_place.Goals.{After-also-ranged, In-Accepted-ranged}
+use Rattle.parity.proofs.rules.of_place.Goals.{After-keep, After-keep-2, In_ok-keep-2, After-keep-3}
 
-pub returns-in_default : goal.returns-in_default
+pub returns-in_err-checked-clause-judged : goal.returns-in_err-checked-clause-judged
 unfolding place_rules
-returns-in_default c = refused_already _ (image_rules _ _) c.of_image-verdict.ensures c.in_default.is
+returns-in_err-checked-clause-judged c = hands_back _ (image_rules _ _) _ c.in_err-checked.ensures.judged refl c.from_residual.ensures
 
-pub offsets-requires : goal.offsets-requires
-offsets-requires c =
-    shelf-passed _ _ c.of_image-verdict.ensures c.in-Accepted.is
+-- the disk is one of the shelf
+numbered : (c : After-keep) → c.keep.result ≡ first_broken (image_rules c.args.shelf.now c.args.n ++ disk_rule c.args.shelf.now c.args.disk ∷ [])
+numbered c = goes_on _ (image_rules _ _) c.in_ok-checked.ensures.judged refl c.keep.ensures
+
+pub returns-in_err-keep-clause-judged : goal.returns-in_err-keep-clause-judged
+unfolding place_rules
+returns-in_err-keep-clause-judged c =
+    let args = c.args in
+    let h = args.shelf.now in
+    let refused = c.in_err-keep.was in
+    let both-judged = hands_back (record { refusal = OutOfRange; kept = ltb args.offset (depth h) } ∷ []) (image_rules h args.n ++ disk_rule h args.disk ∷ []) _ (numbered (goal.at.returns-in_err-keep-clause-judged c).After-keep) refused c.from_residual-in_err-keep.ensures
+    ∙ two_as_one (image_rules h args.n) OutOfRange (ltb args.disk h.v) (ltb args.offset (depth h)) in
+    hands_back _ (image_rules h args.n ++ place_rule h args.disk args.offset ∷ []) _ both-judged (hands _ refl refl c.from_residual-in_err-keep.ensures) c.from_residual-in_err-keep.ensures
 
 -- the place is in range: a rule of the disk and one of the offset
-ranged : (c : After-also-ranged) → let args = c.args in
-    c.also-ranged.result ≡ first_broken (image_rules args.shelf args.n ++ place_rule args.shelf args.disk args.offset ∷ [])
+ranged : (c : After-keep-2) → let args = c.args in
+    c.keep-2.result ≡ first_broken (image_rules args.shelf.now args.n ++ place_rule args.shelf.now args.disk args.offset ∷ [])
 ranged c =
-    let judged = c.of_image-verdict.ensures in
-    let second = c.also-there.ensures ∙ also_rule _ (image_rules _ _) judged (λ _. refl) in
-    c.also-ranged.ensures ∙ also_rule _ (image_rules _ _ ++ _ ∷ []) second (λ _. ap (ltb _) c.offsets.ensures) ∙ two_as_one (image_rules _ _) _ _ _
+    goes_on _ (image_rules _ _ ++ disk_rule c.args.shelf.now c.args.disk ∷ []) (numbered (goal.at.After-keep-2 c).After-keep) c.in_ok-keep.was
+    (c.keep-2.ensures ∙ ap (λ (n : ℕ). first_broken (rule_of (ltb c.args.offset n) OutOfRange)) (rw c.in_ok-checked.ensures.passed at c.offsets.ensures))
+    ∙ two_as_one (image_rules _ _) _ _ _
+
+pub returns-in_err-keep-2-clause-judged : goal.returns-in_err-keep-2-clause-judged
+unfolding place_rules
+returns-in_err-keep-2-clause-judged c =
+    hands_back _ (image_rules _ _ ++ place_rule c.args.shelf.now c.args.disk c.args.offset ∷ []) _ (ranged (goal.at.returns-in_err-keep-2-clause-judged c).After-keep-2) c.in_err-keep-2.was c.from_residual-in_err-keep-2.ensures
 
 -- the place is one of the shelf
-within : (c : In-Accepted-ranged) → let args = c.args in
-    (args.disk < args.shelf.v) × (args.offset < depth args.shelf)
+within : (c : In_ok-keep-2) → let args = c.args in
+    (args.disk < args.shelf.now.v) × (args.offset < depth args.shelf.now)
 within c =
     let args = c.args in
-    let kept = ((rule_kept _ _).0 ((rule_kept _ _).0 ((rule_kept _ _).0 (sym (ranged (goal.at.In-Accepted-ranged c).After-also-ranged) ∙ c.in-Accepted-ranged.is)).1).1).0 in
-    let both-kept = both (ltb args.disk args.shelf.v) (ltb args.offset (depth args.shelf)) kept in
+    let h = args.shelf.now in
+    let kept = ((rule_kept _ _).0 ((rule_kept _ _).0 ((rule_kept _ _).0 (sym (ranged (goal.at.In_ok-keep-2 c).After-keep-2) ∙ c.in_ok-keep-2.was)).1).1).0 in
+    let both-kept = both (ltb args.disk h.v) (ltb args.offset (depth h)) kept in
     (ltb-true _ _ both-kept.0, ltb-true _ _ both-kept.1)
 
-pub returns-in_default-ranged : goal.returns-in_default-ranged
-unfolding place_rules
-returns-in_default-ranged c =
-    let args = c.args in
-    refused_already _ (image_rules _ _ ++ place_rule args.shelf args.disk args.offset ∷ []) (ranged (goal.at.returns-in_default-ranged c).After-also-ranged) c.in_default-ranged.is
-
-passed : (c : In-Accepted-ranged) → is_shelf c.args.shelf ≡ true
-passed c =
-    shelf-passed _ _ c.of_image-verdict.ensures c.in-Accepted.is
+pub unit_at-unit-requires : goal.unit_at-unit-requires
+unit_at-unit-requires c = rw c.in_ok-checked.ensures.passed (within c)
 
 -- whether the unit is present is asked once the place is known to be one
-pub returns : goal.returns
+judged : (c : After-keep-3) → c.keep-3.result ≡ first_broken (place_rules c.args.shelf.now c.args.n c.args.disk c.args.offset)
 unfolding place_rules
-returns c =
-    let args = c.args in
-    c.also.ensures
-    ∙ also_rule (present_rule args.shelf (args.disk * depth args.shelf + args.offset)) (image_rules _ _ ++ place_rule args.shelf args.disk args.offset ∷ []) (ranged (goal.at.returns c).After-also-ranged) (λ a.
-    c.is_present.ensures ∙ ap (present args.shelf) c.unit_at-n.ensures)
+judged c =
+    goes_on _ (image_rules _ _ ++ place_rule c.args.shelf.now c.args.disk c.args.offset ∷ []) (ranged (goal.at.After-keep-3 c).After-keep-2) c.in_ok-keep-2.was
+    (c.keep-3.ensures ∙ ap (λ (k : Bool). first_broken (rule_of k SomeLost)) (rw c.in_ok-checked.ensures.passed at (c.is_present.ensures ∙ ap (present c.in_ok-checked.checked.shelf.now) c.unit_at-unit.ensures)))
 
-pub unit_at-n-requires : goal.unit_at-n-requires
-unit_at-n-requires c = record { shelf_value = passed c; disk_lt_v = within c }
+pub returns-in_err-keep-3-clause-judged : goal.returns-in_err-keep-3-clause-judged
+returns-in_err-keep-3-clause-judged c =
+    hands _ (judged (goal.at.returns-in_err-keep-3-clause-judged c).After-keep-3) c.in_err-keep-3.was c.from_residual-in_err-keep-3.ensures
 
-pub is_present-requires : goal.is_present-requires
-is_present-requires c = passed (goal.at.is_present-requires c).In-Accepted-ranged
+pub returns-clause-judged : goal.returns-clause-judged
+returns-clause-judged c = sym c.in_ok-keep-3.was ∙ judged (goal.at.returns-clause-judged c).After-keep-3

@@ -13,21 +13,18 @@ use Rattle.parity.proofs.showing.part.Goals as goal
 use Rattle.parity.proofs.showing.part.Goals.{After-unit_at}
 
 -- the place is a unit of the image
-here : (c : After-unit_at) → c.unit_at.result < units c.args.shelf
-here c = rw c.unit_at.ensures (digits_lt c.requires.disk_lt_v.0 c.requires.disk_lt_v.1)
+here : (c : After-unit_at) → c.unit_at.result < units c.args.checked.shelf.now
+here c = rw c.unit_at.ensures (digits_lt c.requires.place.0 c.requires.place.1)
 
 fits : (c : After-unit_at) → c.unit_at.result * c.unit_size-size.result + c.unit_size-size.result ≤ length c.args.image.now
 fits c =
-    rw c.unit_size-size.ensures (unit_fits (unit_size c.args.shelf) (units c.args.shelf) c.args.image.now c.requires.held.size _ (here c))
+    rw c.unit_size-size.ensures (unit_fits (unit_size c.args.checked.shelf.now) (units c.args.checked.shelf.now) c.args.image.now c.requires.size _ (here c))
 
 most : (c : After-unit_at) → length c.args.image.now ≤ 2 ^ 45
-most c = omega (arith, c.requires.held.size, image_size_most _ c.requires.held.shelf)
-
-pub unit_size-size-requires : goal.unit_size-size-requires
-unit_size-size-requires c = c.requires.held.shelf
+most c = omega (arith, c.requires.size, image_size_most _ c.args.checked.passed)
 
 pub unit_at-requires : goal.unit_at-requires
-unit_at-requires c = record { shelf_value = c.requires.held.shelf; disk_lt_v = c.requires.disk_lt_v }
+unit_at-requires c = c.requires.place
 
 pub overflow_mul-at : goal.overflow_mul-at
 overflow_mul-at c = omega (arith, fits c, most c)

@@ -10,36 +10,33 @@ use Rattle.parity.proofs.showing.shown.Goals as goal
 use Rattle.parity.proofs.showing.shown.Goals.{After-is_present, After-spot-spot}
 
 pub spot-spot-requires : goal.spot-spot-requires
-spot-spot-requires c = (c.requires.stored.shelf, c.requires.address)
+spot-spot-requires c = c.requires.address
 
 pub unit_at-n-requires : goal.unit_at-n-requires
 unit_at-n-requires c =
-    record { shelf_value = c.requires.stored.shelf; disk_lt_v = rw c.spot-spot.ensures (spot_place _ c.requires.stored.shelf _ c.requires.address) }
-
-pub is_present-requires : goal.is_present-requires
-is_present-requires c = c.requires.stored.shelf
+    rw c.spot-spot.ensures (spot_place _ c.args.checked.passed _ c.requires.address)
 
 -- what stands at the place is the unit of the address
 place_is : (c : After-spot-spot) → let a = c.args in
-    c.spot-spot.result.disk * depth a.shelf + c.spot-spot.result.offset ≡ unit_in a.shelf (stripe_of (layout_in a.shelf) a.address) (j_of (layout_in a.shelf) a.address)
+    c.spot-spot.result.disk * depth a.checked.shelf.now + c.spot-spot.result.offset ≡ unit_in a.checked.shelf.now (stripe_of (layout_in a.checked.shelf.now) a.address) (j_of (layout_in a.checked.shelf.now) a.address)
 place_is c =
-    ap (λ (x : Spot). x.disk * depth c.args.shelf + x.offset) c.spot-spot.ensures ∙ spot-unit _ c.requires.stored.shelf _ c.requires.address
+    ap (λ (x : Spot). x.disk * depth c.args.checked.shelf.now + x.offset) c.spot-spot.ensures ∙ spot-unit _ c.args.checked.passed _ c.requires.address
 
 there : (c : After-is_present) → let a = c.args in
-    present a.shelf (unit_in a.shelf (stripe_of (layout_in a.shelf) a.address) (j_of (layout_in a.shelf) a.address)) ≡ c.is_present.result
+    present a.checked.shelf.now (unit_in a.checked.shelf.now (stripe_of (layout_in a.checked.shelf.now) a.address) (j_of (layout_in a.checked.shelf.now) a.address)) ≡ c.is_present.result
 there c =
-    let h = c.args.shelf in
+    let h = c.args.checked.shelf.now in
     sym (c.is_present.ensures ∙ ap (present h) (c.unit_at-n.ensures ∙ place_is (goal.at.After-is_present c).After-spot-spot))
 
 pub part-requires : goal.part-requires
 part-requires c =
-    record { held = c.requires.stored; disk_lt_v = rw c.spot-spot.ensures (spot_place _ c.requires.stored.shelf _ c.requires.address) }
+    record { size = c.requires.stored.size; place = rw c.spot-spot.ensures (spot_place _ c.args.checked.passed _ c.requires.address) }
 
 pub returns-then-is_present : goal.returns-then-is_present
 unfolding cell
 returns-then-is_present c =
     rw (there (goal.at.returns-then-is_present c).After-is_present ∙ c.if-is_present.true)
-    (c.part.ensures ∙ ap (unit_at (unit_size c.args.shelf) c.args.image.now) (place_is (goal.at.returns-then-is_present c).After-spot-spot))
+    (c.part.ensures ∙ ap (unit_at (unit_size c.args.checked.shelf.now) c.args.image.now) (place_is (goal.at.returns-then-is_present c).After-spot-spot))
 
 pub returns : goal.returns
 returns c = rw (there (goal.at.returns c).After-is_present ∙ c.if-is_present.false)

@@ -8,7 +8,7 @@ use Rattle.parity.proofs.sizes.unit_at.Goals.{After-offsets}
 
 small : (c : After-offsets) → c.args.disk * c.offsets.result + c.args.offset < 2 ^ 34
 small c =
-    rw c.offsets.ensures (omega (arith, digits_lt c.requires.disk_lt_v.0 c.requires.disk_lt_v.1, units_most _ c.requires.shelf_value))
+    rw c.offsets.ensures (omega (arith, digits_lt c.requires.0 c.requires.1, units_most _ c.args.checked.passed))
 
 pub overflow_mul-result : goal.overflow_mul-result
 overflow_mul-result c = omega (arith, small c)

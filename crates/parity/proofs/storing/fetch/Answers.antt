@@ -6,10 +6,7 @@ use Rattle.parity.proofs.Addressed.{unit_within, data_call, read_here, read-lost
 use Rattle.parity.proofs.storing.fetch.Goals as goal
 
 pub standing_of-at-requires : goal.standing_of-at-requires
-standing_of-at-requires c = (c.requires.stored.shelf, c.requires.address)
-
-pub is_present-requires : goal.is_present-requires
-is_present-requires c = c.requires.stored.shelf
+standing_of-at-requires c = c.requires.address
 
 pub load-requires : goal.load-requires
 load-requires c = unit_within c.requires c.standing_of-at.ensures

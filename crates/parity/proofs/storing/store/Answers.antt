@@ -6,10 +6,7 @@ use Rattle.parity.proofs.Addressed.{unit_within, parity_within, data_call, write
 use Rattle.parity.proofs.storing.store.Goals as goal
 
 pub standing_of-at-requires : goal.standing_of-at-requires
-standing_of-at-requires c = (c.requires.stored.shelf, c.requires.address)
-
-pub is_present-requires : goal.is_present-requires
-is_present-requires c = c.requires.stored.shelf
+standing_of-at-requires c = c.requires.address
 
 pub store-requires : goal.store-requires
 store-requires c = unit_within c.requires c.standing_of-at.ensures
@@ -17,9 +14,6 @@ store-requires c = unit_within c.requires c.standing_of-at.ensures
 pub returns-then-not-is_present : goal.returns-then-not-is_present
 returns-then-not-is_present c =
     write_parity-lost c.requires c.standing_of-at.ensures (sym c.is_present.ensures ∙ c.if-not-is_present.true) c.store.ensures
-
-pub is_present-requires-2 : goal.is_present-requires-2
-is_present-requires-2 c = c.requires.stored.shelf
 
 pub store_lost-requires : goal.store_lost-requires
 store_lost-requires c = data_call c.requires c.standing_of-at.ensures

@@ -7,5 +7,5 @@ use Rattle.parity.proofs.units.clear_unit.Goals as goal
 pub returns : goal.returns
 returns c =
     let a = c.args in
-    rw (c.clear.ensures, part_size a.size a.image.now a.n c.requires)
+    rw (c.fill.ensures.after (λ y e. e), part_size a.size a.image.now a.n c.requires)
     (part-put a.size a.image.now a.n (zeros a.size) (length-replicate a.size 0))

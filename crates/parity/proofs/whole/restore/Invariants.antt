@@ -1,10 +1,11 @@
-use Prim.Native.Nat.{◌-◌, ◌≤◌}
+use Prim.Native.Nat.{◌+◌, ◌≤◌}
+use lib.ListN.{length}
 use Rattle.parity.specs.Units.{zeros}
+use Rattle.parity.specs.inner.Blocks.{numbered}
 use Rattle.parity.proofs.StripeSums.{StripeSum}
 use Rattle.parity.proofs.whole.restore.Given as goal
 
-abbrev pub invariant-loop-j : goal.invariant-loop-j
-invariant-loop-j l = (l.j ≤ l.k) × StripeSum l.table l.ranks l.shape l.s l.i l.i (zeros l.size) l.to l.initial.image l.image l.j
-
-abbrev pub decreases-loop-j : goal.decreases-loop-j
-decreases-loop-j l = l.k - l.j
+abbrev pub invariant-loop-from : goal.invariant-loop-from
+invariant-loop-from l =
+    (l.from-index ≤ length l.from-items)
+    × StripeSum l.size (numbered l.numbers) (length l.numbers) l.i l.i (zeros l.size) l.to l.initial.image l.image (l.begun + l.from-index)

@@ -1,51 +1,39 @@
--- `parity::whole::seal` meets its contract. The loop's invariant: unit n is the exclusive-or of the first i units of the buffer.
+-- `parity::whole::seal` meets its contract. The loop's invariant: unit n is the exclusive-or of the units of the buffer so far.
 -- Assumes nothing.
 use mathlib.Core.Path.{◌≡◌, refl, ◌∙◌}
-use Prim.Native.Nat.{ℕ, ◌+◌, ◌*◌, ◌≤◌, ◌<◌}
-use native.Mathlib.Nat.{mul-le-mul_right}
 use native.Mathlib.Omega.{arith}
-use lib.ListN.{length, length-replicate}
+use lib.ListN.{length, length-append, length-replicate}
 use Rattle.parity.specs.Units.{unit_at}
-use Rattle.parity.proofs.Put.{part-unit, part_size}
 use Rattle.parity.proofs.Summing.{summed_none, summed_next, summed_all}
+use Rattle.parity.proofs.Chunks.{left_all, next_is, left_next, left_none}
 use Rattle.parity.proofs.whole.seal.Goals as goal
-use Rattle.parity.proofs.whole.seal.Goals.{Start}
 
--- unit i lies within the buffer
-inside : (start : Start) (i : ℕ) → i < start.args.count
-    → i * start.args.size + start.args.size ≤ length start.args.buffer.now
-inside start i l = omega (arith, mul-le-mul_right start.args.size l)
-
-pub loop-i-init : goal.loop-i-init
-loop-i-init c =
-    (omega arith, summed_none _ _ _ _ c.args.image.now c.requires.0 c.clear_unit.ensures)
-
-pub overflow_mul-at : goal.overflow_mul-at
-overflow_mul-at c = omega (arith, inside (goal.at.overflow_mul-at c).Start _ c.loop-i-test.true)
-
-pub overflow_add-at : goal.overflow_add-at
-overflow_add-at c = omega (arith, inside (goal.at.overflow_add-at c).Start _ c.loop-i-test.true)
-
-pub slice_bounds-mix_in-end : goal.slice_bounds-mix_in-end
-slice_bounds-mix_in-end c = omega (arith, inside (goal.at.slice_bounds-mix_in-end c).Start _ c.loop-i-test.true)
+pub loop-unit-init : goal.loop-unit-init
+loop-unit-init c =
+    let start = c.into_iter-unit-iterator.ensures.into_iter_gives in
+    let chunks = c.chunks_exact-unit-items.ensures in
+    rw (start, chunks.size, chunks.rest)
+    (refl, left_all c.args.size c.args.buffer.now, summed_none _ _ _ _ c.args.image.now c.requires.1 c.clear_unit.ensures)
 
 pub mix_in-requires : goal.mix_in-requires
 mix_in-requires c =
-    rw (part_size c.args.size c.args.buffer.now c.loop-i.i (inside (goal.at.mix_in-requires c).Start c.loop-i.i c.loop-i-test.true))
-    (omega (arith, c.loop-i.invariant.1.fits, c.loop-i.invariant.1.same))
+    let size = c.in-Some.ensures.steps.1.1 ∙ c.loop-unit.invariant.0 in
+    rw size (omega (arith, c.loop-unit.invariant.2.fits, c.loop-unit.invariant.2.same))
 
-pub loop-i-preserved : goal.loop-i-preserved
-loop-i-preserved c =
-    let a = c.args in
-    let size = part_size a.size a.buffer.now c.loop-i.i (inside (goal.at.loop-i-preserved c).Start c.loop-i.i c.loop-i-test.true) in (
-      omega arith,
-      summed_next _ _ _ _ _ _ c.loop-i.invariant.1 _ _ size (part-unit a.size a.buffer.now c.loop-i.i) (rw size at c.mix_in.ensures),
-    )
+pub loop-unit-preserved : goal.loop-unit-preserved
+loop-unit-preserved c =
+    let inv = c.loop-unit.invariant in
+    let step = c.in-Some.ensures.steps in
+    let size : length c.in-Some.unit.now ≡ c.args.size = step.1.1 ∙ inv.0 in
+    let is = next_is inv.1 _ _ step.1.0 size in
+    rw (length-append c.loop-unit.yielded _)
+    (step.0 ∙ inv.0, left_next inv.1 _ _ step.1.0 size, summed_next _ _ _ _ _ _ inv.2 _ c.in-Some.unit.now size is (rw size at c.mix_in.ensures))
 
 pub shape_of-image : goal.shape_of-image
-shape_of-image c = c.loop-i.invariant.1.same ∙ c.clear_unit.auto.image
+shape_of-image c = c.loop-unit.invariant.2.same ∙ c.clear_unit.auto.image
 
 pub returns : goal.returns
 returns c =
-    let all : c.loop-i.i ≡ c.args.count = omega arith in
-    rw all at (summed_all _ _ _ _ _ _ c.loop-i.invariant.1 c.args.image.now _ (unit_at c.args.size c.args.buffer.now) c.requires.0 (length-replicate _ 0) c.clear_unit.ensures (λ i l. refl))
+    let inv = c.loop-unit.invariant in
+    let count = left_none inv.1 (omega (arith, c.in-None.ensures.steps.1.0, inv.0)) in
+    rw count at (summed_all _ _ _ _ _ _ inv.2 c.args.image.now _ (unit_at c.args.size c.args.buffer.now) c.requires.1 (length-replicate _ 0) c.clear_unit.ensures (λ i l. refl))

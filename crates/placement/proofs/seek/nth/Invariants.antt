@@ -1,11 +1,6 @@
-use mathlib.Core.Path.{◌≡◌}
-use Prim.Native.Nat.{◌+◌, ◌-◌, ◌≤◌}
-use Rattle.design.specs.Count.{count}
-use Rattle.placement.specs.Entries.{is_disk}
+use Rattle.std.proofs.Common.{◌≡◌, ◌+◌, ◌==◌, take, count_by}
 use Rattle.placement.proofs.seek.nth.Given as goal
 
+-- what is left and the entries passed that are disk d make m
 abbrev pub invariant-loop-i : goal.invariant-loop-i
-invariant-loop-i l = (l.i ≤ l.n) × (l.left + count (is_disk l.table l.d) l.i ≡ l.m)
-
-abbrev pub decreases-loop-i : goal.decreases-loop-i
-decreases-loop-i l = l.n - l.i
+invariant-loop-i l = l.left + count_by (λ entry. entry == l.d) (take l.i l.entries) ≡ l.m
