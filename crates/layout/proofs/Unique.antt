@@ -16,7 +16,7 @@ use Rattle.design.proofs.Lowest.{rising}
 use Rattle.layout.specs.declared.Start.{Start}
 use Rattle.layout.specs.Calls.{started, buffer_by, Written, refused_rules, first_rules, lines_rules}
 
-pub started_unique : (s : List ℕ) (r r' : Result Start Refusal) → r ≡ started s → r' ≡ started s → r ≡ r'
+pub started_unique : (s : List ℕ) (r r' : Result Start ℕ) → r ≡ started s → r' ≡ started s → r ≡ r'
 started_unique s r r' p q = p ∙ sym q
 
 pub written_unique : (rules : List Rule) (text buffer : List ℕ) (r r' : Result ℕ Refusal) (after after' : List ℕ)

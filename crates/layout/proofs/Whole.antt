@@ -8,7 +8,7 @@ use Rattle.std.specs.Prelude.{Ok, Err, Result}
 use Rattle.design.specs.declared.Refusal.{Refusal}
 use Rattle.fields.specs.Field.{field, bit_at}
 use Rattle.design.specs.declared.Shelf.{Shelf}
-use Rattle.design.specs.Refusals.{number, answered}
+use Rattle.design.specs.Refusals.{answered}
 use Rattle.design.specs.Count.{count, every, list_from}
 use Rattle.design.specs.Refusals.{first_broken}
 use Rattle.design.specs.Tuples.{has, holds, before, shared, disks_below, again, none_twice, disks_even, pairs_even}
@@ -37,9 +37,9 @@ lines_add L first m n =
     (joined_ext n _ (λ i. stripe_line L (first + m + i)) (λ i l. ap (stripe_line L) (sym (add_assoc first m i))))
 
 -- what the program prints is by what opening starts with
-abbrev text_from : Result Start Refusal → List ℕ
+abbrev text_from : Result Start ℕ → List ℕ
 text_from (Ok w) = first_line w.shelf ++ lines_from (layout_in w.shelf) 0 w.stripes
-text_from (Err x) = refused_line (number x)
+text_from (Err n) = refused_line n
 
 pub text_from_start : (s : List ℕ) → text_from (started s) ≡ layout_text s
 unfolding started layout_text started_by text_by

@@ -3,20 +3,20 @@ use Rattle.std.specs.Prelude.{◌≡◌, List, [], ◌∷◌, ◌++◌, ℕ, ◌
 use Rattle.design.specs.declared.Shelf.{Shelf}
 use Rattle.design.specs.declared.Refusal.{Refusal}
 use Rattle.design.specs.declared.Refusal.TheVariants.{OtherBuffer}
-use Rattle.design.specs.Refusals.{Rule, Verdict, first_broken, answered}
+use Rattle.design.specs.Refusals.{Rule, Verdict, number, first_broken, answered}
 use Rattle.design.specs.Sheet.{opened}
 use Rattle.design.specs.Shelf.{shelf_rule}
 use Rattle.placement.specs.Layout.{layout_in, stripes}
 use Rattle.placement.specs.Placed.{range_rule}
 use Rattle.layout.specs.declared.Start.{Start}
 
--- ---- opening: the shelf and its stripes, or the refusal
+-- ---- opening: the shelf and its stripes, or the refusal's number
 
-unfoldable pub started_by : Result Shelf Refusal → Result Start Refusal
+unfoldable pub started_by : Result Shelf Refusal → Result Start ℕ
 started_by (Ok h) = Ok (record { shelf = h; stripes = stripes (layout_in h) })
-started_by (Err x) = Err x
+started_by (Err x) = Err (number x)
 
-unfoldable pub started : List ℕ → Result Start Refusal
+unfoldable pub started : List ℕ → Result Start ℕ
 started s = started_by (opened s)
 
 -- ---- writing a text into the first bytes of a buffer

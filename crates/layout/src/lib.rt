@@ -25,11 +25,14 @@ pub struct Start {
     pub stripes: usize,
 }
 
-// Opens a sheet.
-pub fn open(sheet: &[u8]) -> Result<Start, Refusal>
+// Opens a sheet. A refusal is passed on with its number, by let else: document 01 names this form.
+pub fn open(sheet: &[u8]) -> Result<Start, usize>
     ensures { result ≡ started sheet.now }
 {
-    let shelf = Shelf::open(sheet)?;
+    let opened = Shelf::open(sheet);
+    let Ok(shelf) = opened else {
+        return Err(design::number_given(&opened));
+    };
     let stripes = Checked { shelf: &shelf }.stripes();
     Ok(Start { shelf, stripes })
 }

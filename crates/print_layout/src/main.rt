@@ -44,13 +44,13 @@ fn put<W: Write>(output: &mut W, text: Result<usize, Refusal>, buffer: &[u8]) ->
 // The lines of an opened sheet, part by part, or that of a refused one.
 fn print<W: Write>(
     output: &mut W,
-    opened: Result<Start, Refusal>,
+    opened: Result<Start, usize>,
     buffer: &mut [u8],
 ) -> io::Result<()> {
     let start = match opened {
         Ok(start) => start,
-        Err(refusal) => {
-            let line = layout::refused_line(refusal.number(), buffer);
+        Err(number) => {
+            let line = layout::refused_line(number, buffer);
             return put(output, line, buffer);
         }
     };
