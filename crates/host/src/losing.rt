@@ -31,15 +31,13 @@ pub extern "C" fn shqemtuli_rebuild(shelf: &mut [u8], image: &mut [u8], counts: 
     if counts.len() != COUNTS_SIZE {
         return OTHER_BUFFER;
     }
-    match parity::rebuild(value::shelf(shelf), image) {
+    let answer = parity::rebuild(value::shelf(shelf), image);
+    numbers::put_all(counts, 0, &parity::counts_of(&answer));
+    match answer {
         Ok(rebuilding) => {
-            numbers::put_all(counts, 0, &rebuilding.counts);
             value::put(shelf, rebuilding.shelf);
             0
         }
-        Err(refusal) => {
-            numbers::put_all(counts, 0, &[0; Shelf::V_MOST]);
-            refusal.number()
-        }
+        Err(refusal) => refusal.number(),
     }
 }

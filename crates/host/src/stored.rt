@@ -36,7 +36,7 @@ fn counted<F: FnOnce(&mut [u8]) -> Result<Cost, Refusal>>(
         return OTHER_BUFFER;
     }
     let answer = call(bytes);
-    let Cost { read, written } = answer.unwrap_or_default();
+    let Cost { read, written } = parity::cost_of(answer);
     numbers::put_all(cost, 0, &[read, written]);
     design::number_given(&answer)
 }
@@ -104,6 +104,6 @@ pub extern "C" fn shqemtuli_scrub(shelf: &[u8], image: &[u8], out: &mut [u8]) ->
         return OTHER_BUFFER;
     }
     let wrong = parity::scrub(value::shelf(shelf), image);
-    numbers::put_all(out, 0, &[wrong.unwrap_or(0)]);
+    numbers::put_all(out, 0, &[parity::wrong_of(wrong)]);
     design::number_given(&wrong)
 }

@@ -8,7 +8,7 @@ use Rattle.design.specs.declared.Shelf.{Shelf}
 use Rattle.design.specs.Refusals.{Verdict}
 use Rattle.parity.specs.declared.Cost.{Cost}
 use Rattle.parity.specs.declared.Rebuilding.{Rebuilding}
-use Rattle.parity.specs.Calls.{Answered, Blanked, ReadOut, Wrote, WroteStripe, lost, Rebuilt, scrubbed, place_shown, address_shown}
+use Rattle.parity.specs.Calls.{Answered, Blanked, ReadOut, Wrote, WroteStripe, lost, Rebuilt, scrubbed, place_shown, address_shown, cost_of, losing_of, rebuilt_shelf, counts_of, wrong_of}
 
 -- of every call that answers and leaves bytes
 answered_unique : {A : Type 0} {said : A} {v : Verdict} {new old : List ℕ} {r r' : A} {after after' : List ℕ} → Answered said v new old r after
@@ -44,3 +44,20 @@ module _ (h : Shelf) (image : List ℕ) where
 
 pub lost_unique : (h : Shelf) (d : ℕ) (r r' : Result Shelf Refusal) → r ≡ lost h d → r' ≡ lost h d → r ≡ r'
 lost_unique h d r r' p q = p ∙ sym q
+
+-- ---- what an answer hands back
+
+pub cost_of_unique : (x : Result Cost Refusal) (r r' : Cost) → r ≡ cost_of x → r' ≡ cost_of x → r ≡ r'
+cost_of_unique x r r' p q = p ∙ sym q
+
+pub losing_of_unique : (h : Shelf) (x : Result Shelf Refusal) (r r' : Shelf) → r ≡ losing_of h x → r' ≡ losing_of h x → r ≡ r'
+losing_of_unique h x r r' p q = p ∙ sym q
+
+pub rebuilt_shelf_unique : (h : Shelf) (x : Result Rebuilding Refusal) (r r' : Shelf) → r ≡ rebuilt_shelf h x → r' ≡ rebuilt_shelf h x → r ≡ r'
+rebuilt_shelf_unique h x r r' p q = p ∙ sym q
+
+pub counts_of_unique : (x : Result Rebuilding Refusal) (r r' : List ℕ) → r ≡ counts_of x → r' ≡ counts_of x → r ≡ r'
+counts_of_unique x r r' p q = p ∙ sym q
+
+pub wrong_of_unique : (x : Result ℕ Refusal) (r r' : ℕ) → r ≡ wrong_of x → r' ≡ wrong_of x → r ≡ r'
+wrong_of_unique x r r' p q = p ∙ sym q

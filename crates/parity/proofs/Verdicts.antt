@@ -1,5 +1,5 @@
 -- The first broken rule of a list, found by trying rule after rule. Assumes nothing.
-use mathlib.Core.Path.{◌≡◌, sym, ap, ◌∙◌}
+use mathlib.Core.Path.{◌≡◌, refl, sym, ap, ◌∙◌}
 use mathlib.Core.Bool.{Bool, true, false, ◌&&◌}
 use mathlib.Core.List.{List, [], ◌∷◌, ◌++◌}
 use Prim.Native.Nat.{ℕ}
@@ -11,6 +11,8 @@ use Rattle.design.specs.declared.Refusal.TheVariants.{NotAShelf}
 use Rattle.design.specs.declared.Shelf.{Shelf}
 use Rattle.design.specs.Refusals.{Verdict, Rule, first_broken, verdict}
 use Rattle.design.specs.Shelf.{is_shelf, shelf_rule}
+use Rattle.parity.specs.Calls.{by}
+use Rattle.parity.specs.inner.Judged.{rule_of}
 use Rattle.parity.proofs.Cases.{cases}
 use Rattle.parity.proofs.Accepted.{rule_kept}
 
@@ -59,3 +61,25 @@ pub two_as_one : (first : List Rule) (r : Refusal) (a b : Bool)
 unfolding first_broken
 two_as_one [] r a b = cases a (λ t. rw t) (λ t. rw t)
 two_as_one (y ∷ first) r a b = cases y.kept (λ t. rw t (two_as_one first r a b)) (λ t. rw t)
+
+-- ---- the rules so far, and one more: whether that one is kept matters only where the others are
+
+-- the verdict of the rules so far and of one more
+abbrev pub following : Verdict → Bool → Refusal → Verdict
+following v kept refusal = by v (first_broken (rule_of kept refusal)) v
+
+module _ (x : Rule) where
+  after-all : (first : List Rule) → following (first_broken first) x.kept x.refusal ≡ first_broken (first ++ x ∷ [])
+  unfolding first_broken by
+  after-all [] = refl
+  after-all (y ∷ first) = cases y.kept (λ t. rw t (after-all first)) (λ t. rw t)
+
+  following_kept : (v : Verdict) (k : Bool) → (v ≡ Ok tt → k ≡ x.kept) → following v k x.refusal ≡ following v x.kept x.refusal
+  unfolding by
+  following_kept (Ok tt) k same = ap (λ (t : Bool). following (Ok tt) t x.refusal) (same refl)
+  following_kept (Err r) k same = refl
+
+  pub also_rule : (first : List Rule) {v : Verdict} {k : Bool} → v ≡ first_broken first → (first_broken first ≡ Ok tt → k ≡ x.kept)
+      → following v k x.refusal ≡ first_broken (first ++ x ∷ [])
+  also_rule first {v} {k} e same =
+      ap (λ (w : Verdict). following w k x.refusal) e ∙ following_kept (first_broken first) k same ∙ after-all first

@@ -2,6 +2,16 @@
 ghost use Rattle.std.specs.Prelude.{◌≡◌, length};
 ghost use Rattle.parity.specs.Units.{xor_u, is_zero};
 
+// Copies one unit into another. The library's `copy_from_slice` would have every program that links the archive for C bring `memmove`.
+pub fn copy(to: &mut [u8], from: &[u8])
+    requires { length to.old ≡ length from.now }
+    ensures { to.new ≡ from.now }
+{
+    for (i, x) in to.iter_mut().enumerate() {
+        *x = from[i];
+    }
+}
+
 // Mixes one unit into another: the exclusive-or of the two.
 pub fn mix(to: &mut [u8], from: &[u8])
     requires { length to.old ≡ length from.now }

@@ -6,6 +6,7 @@ ghost use Rattle.parity.specs.Calls.{Blanked, ReadOut, Wrote, WroteStripe, lost,
 
 use design::{Loss, Refusal, Shelf};
 
+mod answers;
 mod blocks;
 mod bytes;
 mod checking;
@@ -19,6 +20,8 @@ mod storing;
 mod stripe;
 mod units;
 mod whole;
+
+pub use answers::{cost_of, counts_of, losing_of, rebuilt_shelf, wrong_of};
 
 // The units that a unit write, a stripe write or a read reads and writes. A refused call has none, as `Cost::default()`.
 #[derive(Clone, Copy, Debug, Default, PartialEq, Eq)]

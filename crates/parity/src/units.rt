@@ -19,7 +19,7 @@ pub fn store(image: &mut [u8], n: usize, unit: &[u8])
 {
     let size = unit.len();
     let at = n * size;
-    image[at..at + size].copy_from_slice(unit);
+    bytes::copy(&mut image[at..at + size], unit);
 }
 
 // Unit n, into a lent one.
@@ -29,7 +29,7 @@ pub fn load(unit: &mut [u8], image: &[u8], n: usize)
 {
     let size = unit.len();
     let at = n * size;
-    unit.copy_from_slice(&image[at..at + size]);
+    bytes::copy(unit, &image[at..at + size]);
 }
 
 // Mixes a lent unit into unit n.

@@ -1,5 +1,5 @@
 // What the library's calls answer, in print.
-use design::{Refusal, Shelf, number_given};
+use design::{Refusal, number_given};
 use parity::{Cost, Rebuilding};
 use placement::{LookUp, Spot};
 use std::io;
@@ -52,18 +52,15 @@ pub fn look_up<W: Write>(to: &mut W, answer: Result<LookUp, Refusal>) -> io::Res
 
 // The number and the units read and written, none where it is refused.
 pub fn cost<W: Write>(to: &mut W, answer: Result<Cost, Refusal>) -> io::Result<()> {
-    let cost = answer.unwrap_or_default();
+    let cost = parity::cost_of(answer);
     numbers(to, &[number_given(&answer), cost.read, cost.written])
 }
 
 pub fn scrubbing<W: Write>(to: &mut W, answer: Result<usize, Refusal>) -> io::Result<()> {
-    numbers(to, &[number_given(&answer), answer.unwrap_or(0)])
+    numbers(to, &[number_given(&answer), parity::wrong_of(answer)])
 }
 
 pub fn rebuilding<W: Write>(to: &mut W, answer: Result<Rebuilding, Refusal>) -> io::Result<()> {
     numbers(to, &[number_given(&answer)])?;
-    match answer {
-        Ok(rebuilding) => numbers(to, &rebuilding.counts),
-        Err(_) => numbers(to, &[0; Shelf::V_MOST]),
-    }
+    numbers(to, &parity::counts_of(&answer))
 }

@@ -10,6 +10,9 @@ use std::str::FromStr;
 // The most bytes of a buffer that a shelf is written back into.
 const BACK_MOST: usize = 2048;
 
+// One word more than a command has at the most: what a line has behind these makes it no other command.
+const WORDS_MOST: usize = 6;
+
 // A number of the shelf value.
 #[derive(Clone, Copy, Debug, PartialEq, Eq)]
 pub enum Field {
@@ -243,11 +246,19 @@ impl Call {
 }
 
 impl Command {
-    // What a line asks.
+    // What a line asks. Its words lie in an array: a line, a comment too, may have many, and memory is asked for its bytes alone.
     pub fn read(alloc: Global, line: &[u8]) -> Result<Command, Fault> {
         let text = str::from_utf8(line).map_err(|_| Fault::NoCommand)?;
-        let words = text.split(' ').collect::<Vec<&str>>(alloc)?;
-        Command::parse(alloc, words.as_slice())
+        let mut words = [""; WORDS_MOST];
+        let mut count = 0;
+        for word in text.split(' ') {
+            if count >= WORDS_MOST {
+                break;
+            }
+            words[count] = word;
+            count += 1;
+        }
+        Command::parse(alloc, words.get(..count).ok_or(Fault::NoCommand)?)
     }
 
     fn parse(alloc: Global, words: &[&str]) -> Result<Command, Fault> {

@@ -34,9 +34,7 @@ pub fn look<W: Write>(to: &mut W, shelf: Shelf, image: &[u8], look: Look) -> io:
 
 fn rebuild<W: Write>(to: &mut W, shelf: &mut Shelf, image: &mut [u8]) -> io::Result<()> {
     let answer = parity::rebuild(*shelf, image);
-    if let Ok(rebuilding) = answer {
-        *shelf = rebuilding.shelf;
-    }
+    *shelf = parity::rebuilt_shelf(*shelf, &answer);
     answers::rebuilding(to, answer)
 }
 
@@ -62,6 +60,6 @@ pub fn store<W: Write>(
 
 pub fn lose<W: Write>(to: &mut W, shelf: &mut Shelf, disk: usize) -> io::Result<()> {
     let answer = parity::lose(*shelf, disk);
-    *shelf = answer.unwrap_or(*shelf);
+    *shelf = parity::losing_of(*shelf, answer);
     answers::numbers(to, &[number_given(&answer)])
 }

@@ -2,7 +2,16 @@
 use std::fmt;
 use std::fmt::{Formatter, Write};
 
-// Bytes as pairs of digits, and `-` for none.
+const DIGITS: [&str; 16] = [
+    "0", "1", "2", "3", "4", "5", "6", "7", "8", "9", "A", "B", "C", "D", "E", "F",
+];
+
+// The digit of the low half of a byte.
+fn digit(x: u8) -> &'static str {
+    DIGITS[usize::from(x & 15)]
+}
+
+// Bytes as pairs of digits, and `-` for none. With `{byte:02X}` a long print takes nearly twice the time.
 #[derive(Clone, Copy, Debug, PartialEq, Eq)]
 pub struct Bytes<'a>(pub &'a [u8]);
 
@@ -12,7 +21,8 @@ impl fmt::Display for Bytes<'_> {
             return write!(f, "-");
         }
         for byte in self.0 {
-            write!(f, "{byte:02X}")?;
+            f.write_str(digit(byte >> 4))?;
+            f.write_str(digit(*byte))?;
         }
         Ok(())
     }

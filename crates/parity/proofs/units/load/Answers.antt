@@ -7,4 +7,4 @@ use Rattle.parity.proofs.units.load.Goals as goal
 pub returns : goal.returns
 returns c =
     let a = c.args in
-    c.copy_from_slice.ensures.after ∙ part-unit (length a.unit.now) a.image.now a.n
+    c.copy.ensures ∙ part-unit (length a.unit.now) a.image.now a.n

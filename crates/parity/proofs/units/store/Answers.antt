@@ -7,4 +7,4 @@ use Rattle.parity.proofs.units.store.Goals as goal
 pub returns : goal.returns
 returns c =
     let a = c.args in
-    rw c.copy_from_slice.ensures.after (part-put (length a.unit.now) a.image.now a.n a.unit.now refl)
+    rw c.copy.ensures (part-put (length a.unit.now) a.image.now a.n a.unit.now refl)

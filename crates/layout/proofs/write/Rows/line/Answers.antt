@@ -1,78 +1,55 @@
 -- `layout::write::Rows::line` meets its contract: number, parity place, data places and line end, one after another. The loop's invariant: the
 -- first j data places are written. Assumes nothing.
-use mathlib.Core.Path.{◌≡◌, ap, ◌∙◌}
+use mathlib.Core.Path.{◌≡◌}
 use mathlib.Core.List.{List, [], ◌∷◌, ◌++◌}
 use Prim.Native.Nat.{ℕ, ◌-◌, ◌*◌, ◌<◌}
 use native.Mathlib.Nat.{le-mul_of_pos_right}
 use native.Mathlib.Omega.{arith}
 use Rattle.design.proofs.ShelfTests.{shelf_parts}
-use Rattle.placement.specs.declared.unchecked.Split.{Split}
-use Rattle.placement.specs.Slots.{position_of}
-use Rattle.placement.specs.Layout.{Layout, layout_in, parity_of}
+use Rattle.placement.specs.Layout.{layout_in, parity_of}
 use Rattle.placement.proofs.Stepping.{position_below}
-use Rattle.layout.specs.Text.{line_end, decimal, joined, place_word, stripe_line}
+use Rattle.layout.specs.Text.{line_end, decimal, joined}
 use Rattle.layout.specs.inner.Steps.{Fits, Wrote}
 use Rattle.layout.proofs.Puts.{wrote_nothing, wrote_then, fits_front, fits_rest}
 use Rattle.layout.proofs.Words.{next_fits, wrote_next}
-use Rattle.layout.proofs.Ranking.{word_in, word_is, data_word}
+use Rattle.layout.proofs.Ranking.{ranked_word, ranked_data, line_is}
 use Rattle.layout.proofs.Splitting.{Small, small}
 use Rattle.layout.proofs.write.Rows.line.Goals as goal
 use Rattle.layout.proofs.write.Rows.line.Goals.{After-loop-j, After-place, After-position_of, After-split_of-split, Start}
 
--- ---- the parts of the line, and that they fit
-abbrev lay : Start → Layout
-lay c = layout_in c.args.self.now.checked.shelf.now
-
-abbrev data_count : Start → ℕ
-data_count c = c.args.self.now.checked.shelf.now.k - 1
-
+-- ---- the parts of the line by the ranks, and that they fit
 abbrev upto_parity : Start → List ℕ
-upto_parity c = decimal c.args.s ++ place_word (lay c) c.args.s (parity_of (lay c) c.args.s)
+upto_parity c = decimal c.args.s ++ ranked_word c.args.self.now c.args.s (parity_of (layout_in c.args.self.now.checked.shelf.now) c.args.s)
 
-abbrev upto_data : Start → List ℕ
-upto_data c = upto_parity c ++ joined (data_count c) (data_word (lay c) c.args.s)
+abbrev data_words : Start → List ℕ
+data_words c = joined (c.args.self.now.checked.shelf.now.k - 1) (ranked_data c.args.self.now c.args.s)
 
-line_fits : (c : Start) → Fits c.args.pen.now (upto_data c ++ line_end ∷ [])
-unfolding stripe_line
-line_fits c = c.requires.fits
+line_fits : (c : Start) → Fits c.args.pen.now (upto_parity c ++ data_words c ++ line_end ∷ [])
+line_fits c = rw (line_is c.args.self.now c.args.s) c.requires.fits
 
-data_fits : (c : Start) → Fits c.args.pen.now (upto_data c)
-data_fits c = fits_front (upto_data c) (line_end ∷ []) (line_fits c)
+data_fits : (c : Start) → Fits c.args.pen.now (upto_parity c ++ data_words c)
+data_fits c = fits_front (upto_parity c ++ data_words c) (line_end ∷ []) (line_fits c)
 
 parity_fits : (c : Start) → Fits c.args.pen.now (upto_parity c)
-parity_fits c = fits_front (upto_parity c) (joined (data_count c) (data_word (lay c) c.args.s)) (data_fits c)
+parity_fits c = fits_front (upto_parity c) (data_words c) (data_fits c)
 
 -- ---- what the places are
 numbers : (c : After-split_of-split) → Small c.args.self.now.checked.shelf.now.k c.args.self.now.checked.shelf.now.r c.split_of-split.result
 numbers c = small c.args.self.now.checked.shelf.now c.args.self.now.checked.passed c.args.s c.requires.below c.split_of-split.ensures
-
-parity_is : (c : After-split_of-split)
-    → word_in c.args.self.now c.split_of-split.result c.split_of-split.result.parity ≡ place_word (lay (goal.at.After-split_of-split c).Start) c.args.s (parity_of (lay (goal.at.After-split_of-split c).Start) c.args.s)
-parity_is c =
-    let is = c.split_of-split.ensures in
-    word_is c.args.self.now c.args.s c.split_of-split.result.parity (numbers c).parity is
-    ∙ ap (λ (at : Split). place_word (layout_in c.args.self.now.checked.shelf.now) c.args.s at.parity) is
 
 position-lt : (c : After-position_of) → c.position_of.result < c.args.self.now.checked.shelf.now.k
 position-lt c =
     let l = c.loop-j in
     omega (arith, c.position_of.ensures, c.loop-j-test.true, position_below c.split_of-split.result.parity l.j (c.args.self.now.checked.shelf.now.k - 1) c.loop-j-test.true)
 
-data_is : (c : After-position_of) → word_in c.args.self.now c.split_of-split.result c.position_of.result ≡ data_word (lay (goal.at.After-position_of c).Start) c.args.s c.loop-j.j
-data_is c =
-    let is = c.split_of-split.ensures in
-    let j = c.loop-j.j in
-    word_is c.args.self.now c.args.s c.position_of.result (position-lt c) is
-    ∙ ap (place_word (layout_in c.args.self.now.checked.shelf.now) c.args.s) (c.position_of.ensures ∙ ap (λ (at : Split). position_of at.parity j) is)
-
 -- ---- what is written
 wrote_parity : (c : After-place) → Wrote c.args.pen.now (upto_parity (goal.at.After-place c).Start) c.place.new.pen
-wrote_parity c = wrote_then c.number.ensures (rw (parity_is (goal.at.After-place c).After-split_of-split) at c.place.ensures)
+wrote_parity c = wrote_then c.number.ensures (rw c.split_of-split.ensures at c.place.ensures)
 
-rest_fits : (c : After-place) → Fits c.place.new.pen (joined (data_count (goal.at.After-place c).Start) (data_word (lay (goal.at.After-place c).Start) c.args.s))
+rest_fits : (c : After-place) → Fits c.place.new.pen (data_words (goal.at.After-place c).Start)
 rest_fits c = fits_rest (data_fits (goal.at.After-place c).Start) (wrote_parity c)
 
-wrote_data : (c : After-loop-j) → Wrote c.args.pen.now (upto_data (goal.at.After-loop-j c).Start) c.loop-j.pen
+wrote_data : (c : After-loop-j) → Wrote c.args.pen.now (upto_parity (goal.at.After-loop-j c).Start ++ data_words (goal.at.After-loop-j c).Start) c.loop-j.pen
 wrote_data c =
     let over : c.loop-j.j ≡ c.args.self.now.checked.shelf.now.k - 1 = omega (arith, c.loop-j.auto, c.loop-j-test.false) in
     wrote_then (wrote_parity (goal.at.After-loop-j c).After-place) (rw over at c.loop-j.invariant)
@@ -115,7 +92,7 @@ pub place-requires : goal.place-requires
 place-requires c =
     let n = numbers (goal.at.place-requires c).After-split_of-split in
     record {
-      fits = rw (parity_is (goal.at.place-requires c).After-split_of-split) (fits_rest (parity_fits (goal.at.place-requires c).Start) c.number.ensures);
+      fits = rw c.split_of-split.ensures (fits_rest (parity_fits (goal.at.place-requires c).Start) c.number.ensures);
       bounds = (omega (arith, n.tables, n.copies), omega (arith, n.row, n.parity));
     }
 
@@ -133,17 +110,16 @@ place-requires-in-loop-j c =
     let w = (goal.at.place-requires-in-loop-j c).After-position_of in
     let all = rest_fits (goal.at.place-requires-in-loop-j c).After-place in
     record {
-      fits = rw (data_is w) (next_fits _ c.loop-j.j c.loop-j.invariant c.loop-j-test.true all);
+      fits = rw (c.position_of.ensures, c.split_of-split.ensures) (next_fits _ c.loop-j.j c.loop-j.invariant c.loop-j-test.true all);
       bounds = (omega (arith, n.tables, n.copies), omega (arith, n.row, position-lt w));
     }
 
 pub loop-j-preserved : goal.loop-j-preserved
 loop-j-preserved c =
-    wrote_next _ c.loop-j.j c.loop-j.invariant (rw (data_is (goal.at.loop-j-preserved c).After-position_of) at c.place-in-loop-j.ensures)
+    wrote_next _ c.loop-j.j c.loop-j.invariant (rw (c.position_of.ensures, c.split_of-split.ensures) at c.place-in-loop-j.ensures)
 
 pub line_end-requires : goal.line_end-requires
 line_end-requires c = fits_rest (line_fits (goal.at.line_end-requires c).Start) (wrote_data (goal.at.line_end-requires c).After-loop-j)
 
 pub returns : goal.returns
-unfolding stripe_line
-returns c = wrote_then (wrote_data (goal.at.returns c).After-loop-j) c.line_end.ensures
+returns c = rw (line_is c.args.self.now c.args.s) at (wrote_then (wrote_data (goal.at.returns c).After-loop-j) c.line_end.ensures)

@@ -3,18 +3,17 @@ use mathlib.Core.Path.{◌≡◌}
 use Prim.Native.Nat.{◌-◌}
 use native.Mathlib.Omega.{arith}
 use Rattle.std.proofs.Common.{rules}
-use Rattle.placement.specs.Layout.{layout_in}
 use Rattle.placement.proofs.Bounds.{bounds}
-use Rattle.layout.specs.Text.{lines_from}
 use Rattle.layout.specs.inner.Steps.{Fits}
 use Rattle.layout.proofs.Puts.{lent_fits, begins}
-use Rattle.layout.proofs.Lengths.{lines_most}
-use Rattle.layout.proofs.Printing.{no_line, next_line_fits, wrote_line}
+use Rattle.layout.proofs.Ranking.{ranked_lines}
+use Rattle.layout.proofs.Lengths.{ranked_lines_most}
+use Rattle.layout.proofs.Printing.{no_line, next_line_fits, wrote_line, printed_all}
 use Rattle.layout.proofs.write.Rows.lines.Goals as goal
 use Rattle.layout.proofs.write.Rows.lines.Goals.{After-new-pen}
 
-all_fit : (c : After-new-pen) → Fits c.new-pen.result (lines_from (layout_in c.args.self.now.checked.shelf.now) c.args.first c.args.n)
-all_fit c = lent_fits c.new-pen.ensures (omega (arith, c.requires, lines_most c.args.self.now.checked.shelf.now c.args.self.now.checked.passed c.args.first c.args.n c.requires.0))
+all_fit : (c : After-new-pen) → Fits c.new-pen.result (ranked_lines c.args.self.now c.args.first c.args.n)
+all_fit c = lent_fits c.new-pen.ensures (omega (arith, c.requires, ranked_lines_most c.args.self.now c.args.first c.args.n c.requires.0))
 
 pub overflow_add-s-end : goal.overflow_add-s-end
 overflow_add-s-end c = omega (arith, c.requires.0, (bounds c.args.self.now.checked.shelf.now c.args.self.now.checked.passed).stripes)
@@ -39,4 +38,4 @@ pub returns : goal.returns
 returns c =
     let l = c.loop-s in
     let over : l.s - c.args.first ≡ c.args.n = omega (arith, l.auto.s, l.auto.s-end (omega arith), c.loop-s-test.false) in
-    begins c.new-pen.ensures (rw over at l.invariant) (search rules)
+    begins c.new-pen.ensures (printed_all _ c.args.first (l.s - c.args.first) c.args.n l.invariant over) (search rules)
